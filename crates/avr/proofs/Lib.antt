@@ -1,0 +1,5 @@
+pub mod Places
+pub mod Rows
+pub mod Locals
+pub mod Kept
+pub mod Sounds

@@ -1,0 +1,4 @@
+//! The chip.
+pub mod location;
+pub mod sources;
+pub mod table;

@@ -1,0 +1,11 @@
+//! Lists of at most four places.
+
+/// The places that something comes from.
+#[derive(Clone, Copy)]
+pub enum Sources {
+    Nothing,
+    One(u16),
+    Two(u16, u16),
+    Three(u16, u16, u16),
+    Four(u16, u16, u16, u16),
+}

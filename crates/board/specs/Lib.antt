@@ -1,0 +1,4 @@
+pub mod Cores
+pub mod Cells
+pub mod States
+pub mod Faults

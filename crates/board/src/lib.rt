@@ -1,0 +1,5 @@
+//! The board.
+mod cell;
+mod chip;
+pub mod board;
+pub mod fault;

@@ -1,0 +1,6 @@
+mod Exhaust
+mod Sole
+mod Readings
+mod Codes
+mod Words
+mod Theorem

@@ -1,0 +1,4 @@
+pub mod Machine
+pub mod Run
+pub mod Calls
+pub mod Laws

@@ -1,0 +1,10 @@
+pub mod Says
+pub mod Meanings
+pub mod Setting
+pub mod Statics
+pub mod Solo
+pub mod Pairs
+pub mod Running
+pub mod Lives
+pub mod Arrivals
+pub mod Hidings
