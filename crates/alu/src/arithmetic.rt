@@ -2,16 +2,23 @@
 ghost use mathlib.Core.Path.{_≡_};
 ghost use Prim.Native.Nat.{_≤_, _<_};
 ghost use Rattle.alu.specs.Arithmetic.{sumOf, differenceOf, logicOf, binaryOutput, counterpart as counterpartOf, unaryOutput, wideOutput, productOf, wordOutput};
-
-use crate::output::{ByteOutput, WordOutput};
-use words::instruction::{BinaryOp, ImmediateOp, UnaryOp, WideOp};
+use crate::output::ByteOutput;
+use crate::output::WordOutput;
+use words::instruction::BinaryOp;
+use words::instruction::ImmediateOp;
+use words::instruction::UnaryOp;
+use words::instruction::WideOp;
 
 fn sum(a: u8, b: u8, carry: bool) -> ByteOutput
     ensures { λ r. ⌜ r ≡ sumOf a b carry ⌝ }
 {
     let sum = u16::from(a) + u16::from(b) + u16::from(carry);
     let value = (sum % 256) as u8;
-    ByteOutput { value, carry: sum > 255, zero: value == 0 }
+    ByteOutput {
+        value,
+        carry: sum > 255,
+        zero: value == 0,
+    }
 }
 
 fn difference(a: u8, b: u8, carry: bool, before: bool) -> ByteOutput
@@ -19,13 +26,21 @@ fn difference(a: u8, b: u8, carry: bool, before: bool) -> ByteOutput
 {
     let difference = 256 + u16::from(a) - u16::from(b) - u16::from(carry);
     let value = (difference % 256) as u8;
-    ByteOutput { value, carry: difference < 256, zero: value == 0 && before }
+    ByteOutput {
+        value,
+        carry: difference < 256,
+        zero: value == 0 && before,
+    }
 }
 
 fn logic(value: u8, carry: bool) -> ByteOutput
     ensures { λ r. ⌜ r ≡ logicOf value carry ⌝ }
 {
-    ByteOutput { value, carry, zero: value == 0 }
+    ByteOutput {
+        value,
+        carry,
+        zero: value == 0,
+    }
 }
 
 /// What an operation on two bytes gives, from the flags before; cpse and mul leave the first byte and the flags.
@@ -40,8 +55,16 @@ pub fn binary(op: BinaryOp, a: u8, b: u8, carry: bool, zero: bool) -> ByteOutput
         BinaryOp::And => logic(a & b, carry),
         BinaryOp::Eor => logic(a ^ b, carry),
         BinaryOp::Or => logic(a | b, carry),
-        BinaryOp::Mov => ByteOutput { value: b, carry, zero },
-        BinaryOp::Cpse | BinaryOp::Mul => ByteOutput { value: a, carry, zero },
+        BinaryOp::Mov => ByteOutput {
+            value: b,
+            carry,
+            zero,
+        },
+        BinaryOp::Cpse | BinaryOp::Mul => ByteOutput {
+            value: a,
+            carry,
+            zero,
+        },
     }
 }
 
@@ -66,15 +89,25 @@ pub fn unary(op: UnaryOp, a: u8, carry: bool) -> ByteOutput
         UnaryOp::Neg => difference(0, a, false, true),
         UnaryOp::Inc => logic(a.wrapping_add(1), carry),
         UnaryOp::Dec => logic(a.wrapping_sub(1), carry),
-        UnaryOp::Lsr => ByteOutput { carry: a % 2 == 1, ..logic(a / 2, carry) },
-        UnaryOp::Ror => ByteOutput { carry: a % 2 == 1, ..logic(128 * u8::from(carry) + a / 2, carry) },
+        UnaryOp::Lsr => ByteOutput {
+            carry: a % 2 == 1,
+            ..logic(a / 2, carry)
+        },
+        UnaryOp::Ror => ByteOutput {
+            carry: a % 2 == 1,
+            ..logic(128 * u8::from(carry) + a / 2, carry)
+        },
     }
 }
 
 fn word(value: u16, carry: bool) -> WordOutput
     ensures { λ r. ⌜ r ≡ wordOutput value carry ⌝ }
 {
-    WordOutput { value, carry, zero: value == 0 }
+    WordOutput {
+        value,
+        carry,
+        zero: value == 0,
+    }
 }
 
 /// What an operation on a 16-bit number and a constant gives.

@@ -98,10 +98,13 @@ module _ (x y : Core) (fx : fineCore x ≡ true) (fy : fineCore y ≡ true) wher
       reg-holds x′ y′ (d + 1) l (ap (λ rs. reg rs (d + 1)) e ∙ (pair-high (x .registers) d v (in-x (d + 1) l) ∙ (ap (λ n. n / 256) q ∙ sym (ap (λ rs. reg rs (d + 1)) f ∙ pair-high (y .registers) d w (in-y (d + 1) l)))))
 
   wide-local : (d : ℕ) (qs : List ℕ) (o o′ : WordOutput) → d + 1 < 32 → (Same x y qs → o ≡ o′) → EachRow (Local (storedPair x d o) (storedPair y d o′)) (row d qs ∷ (row (d + 1) qs ∷ flagsOnly qs))
-  wide-local d qs o o′ l e =
-      ( (λ h. pairs-low d (o .value) (o′ .value) (storedPair x d o) (storedPair y d o′) l refl refl (ap (λ r. r .value) (e h)))
-      , ( (λ h. pairs-high d (o .value) (o′ .value) (storedPair x d o) (storedPair y d o′) l refl refl (ap (λ r. r .value) (e h)))
-        , ((λ h. flag-row _ _ (ap (λ r. r .carry) (e h))), ((λ h. flag-row _ _ (ap (λ r. r .zero) (e h))), tt))))
+  wide-local d qs o o′ l e = (
+    (λ h. pairs-low d (o .value) (o′ .value) (storedPair x d o) (storedPair y d o′) l refl refl (ap (λ r. r .value) (e h))),
+    (
+      (λ h. pairs-high d (o .value) (o′ .value) (storedPair x d o) (storedPair y d o′) l refl refl (ap (λ r. r .value) (e h))),
+      ((λ h. flag-row _ _ (ap (λ r. r .carry) (e h))), ((λ h. flag-row _ _ (ap (λ r. r .zero) (e h))), tt)),
+    ),
+  )
 
   -- an operation on a register and a byte that is the same where the places bs hold the same
   module _ (d : ℕ) (ld : d < 32) (bs : List ℕ) (b b′ : ℕ) (same : Same x y bs → b ≡ b′) where
@@ -158,15 +161,17 @@ module _ (x y : Core) (fx : fineCore x ≡ true) (fy : fineCore y ≡ true) wher
       let n : d < 32 = omega arith in
       let m : r < 32 = omega arith in
       let low = λ (z : Core) (f : fineCore z ≡ true). set-off (set (z .registers) d (reg (z .registers) r)) (d + 1) d (reg (z .registers) (r + 1)) (ne-eqb d (d + 1) (λ q. omega arith)) ∙ set-at (z .registers) d d (reg (z .registers) r) refl (let e = wide z f in omega arith) in
-      let high = λ (z : Core) (f : fineCore z ≡ true). set-at (set (z .registers) d (reg (z .registers) r)) (d + 1) (d + 1) (reg (z .registers) (r + 1)) refl (let e = wide z f in let k = length-set (z .registers) d (reg (z .registers) r) in omega arith) in
-      ( (λ h. reg-holds (movwEffect d r x) (movwEffect d r y) d n (low x fx ∙ (reg-same x y r m (h .0) ∙ sym (low y fy))))
-      , ((λ h. reg-holds (movwEffect d r x) (movwEffect d r y) (d + 1) ld (high x fx ∙ (reg-same x y (r + 1) lr (h .0) ∙ sym (high y fy)))), tt))
+      let high = λ (z : Core) (f : fineCore z ≡ true). set-at (set (z .registers) d (reg (z .registers) r)) (d + 1) (d + 1) (reg (z .registers) (r + 1)) refl (let e = wide z f in let k = length-set (z .registers) d (reg (z .registers) r) in omega arith) in (
+        (λ h. reg-holds (movwEffect d r x) (movwEffect d r y) d n (low x fx ∙ (reg-same x y r m (h .0) ∙ sym (low y fy)))),
+        ((λ h. reg-holds (movwEffect d r x) (movwEffect d r y) (d + 1) ld (high x fx ∙ (reg-same x y (r + 1) lr (h .0) ∙ sym (high y fy)))), tt),
+      )
 
   -- a pair that is written back, from its own two bytes
   back-pair : (d v w : ℕ) (l k : List ℕ) (x′ y′ : Core) → d + 1 < 32 → length l ≡ 32 → length k ≡ 32 → x′ .registers ≡ withPair l d v → y′ .registers ≡ withPair k d w → (Same x y (d ∷ ((d + 1) ∷ [])) → v ≡ w) → EachRow (Local x′ y′) (pairRows d)
-  back-pair d v w l k x′ y′ ld ll lk e f q =
-      ( (λ h. reg-holds x′ y′ d (omega arith) (ap (λ rs. reg rs d) e ∙ (pair-low l d v (omega arith) ∙ (ap (λ n. n % 256) (q h) ∙ sym (ap (λ rs. reg rs d) f ∙ pair-low k d w (omega arith))))))
-      , ((λ h. reg-holds x′ y′ (d + 1) ld (ap (λ rs. reg rs (d + 1)) e ∙ (pair-high l d v (omega arith) ∙ (ap (λ n. n / 256) (q h) ∙ sym (ap (λ rs. reg rs (d + 1)) f ∙ pair-high k d w (omega arith)))))), tt))
+  back-pair d v w l k x′ y′ ld ll lk e f q = (
+    (λ h. reg-holds x′ y′ d (omega arith) (ap (λ rs. reg rs d) e ∙ (pair-low l d v (omega arith) ∙ (ap (λ n. n % 256) (q h) ∙ sym (ap (λ rs. reg rs d) f ∙ pair-low k d w (omega arith)))))),
+    ((λ h. reg-holds x′ y′ (d + 1) ld (ap (λ rs. reg rs (d + 1)) e ∙ (pair-high l d v (omega arith) ∙ (ap (λ n. n / 256) (q h) ∙ sym (ap (λ rs. reg rs (d + 1)) f ∙ pair-high k d w (omega arith)))))), tt),
+  )
 
   back-local : (m : Mode) (l k : List ℕ) (x′ y′ : Core) → length l ≡ 32 → length k ≡ 32 → x′ .registers ≡ writeBack m (pairOf (x .registers) (pointerPair m)) l → y′ .registers ≡ writeBack m (pairOf (y .registers) (pointerPair m)) k → EachRow (Local x′ y′) (backRows m)
   back-local mode.X l k x′ y′ ll lk e f = tt
@@ -179,7 +184,7 @@ module _ (x y : Core) (fx : fineCore x ≡ true) (fy : fineCore y ≡ true) wher
 
   -- memory with one byte stored, at an address that comes from a pointer
   stored-memory : (f : ℕ → ℕ) (d r : ℕ) → d + 1 < 32 → r < 32 → Same x y (34 ∷ (d ∷ ((d + 1) ∷ (r ∷ [])))) →
-    set (x .memory) (f (pairOf (x .registers) d)) (reg (x .registers) r) ≡ set (y .memory) (f (pairOf (y .registers) d)) (reg (y .registers) r)
+      set (x .memory) (f (pairOf (x .registers) d)) (reg (x .registers) r) ≡ set (y .memory) (f (pairOf (y .registers) d)) (reg (y .registers) r)
   stored-memory f d r ld lr h =
       let m : x .memory ≡ y .memory = h .0 in
       let p = pair-same d ld (h .1 .0, (h .1 .1 .0, tt)) in
@@ -187,28 +192,31 @@ module _ (x y : Core) (fx : fineCore x ≡ true) (fy : fineCore y ≡ true) wher
       ap₂ (λ bytes a. set bytes a (reg (x .registers) r)) m (ap f p) ∙ ap (λ n. set (y .memory) (f (pairOf (y .registers) d)) n) v
 
   load-local : (m : Mode) (d : ℕ) → d < 32 → inPair (writtenBack m) d ≡ false → EachRow (Local (effectOf (Load m d) x) (effectOf (Load m d) y)) (rowsOf (Load m d))
-  load-local m d l n =
-      ( (λ h.
-          reg-holds (effectOf (Load m d) x) (effectOf (Load m d) y) d l
-            (back-off m d (pairOf (x .registers) (pointerPair m)) (set (x .registers) d _) n
-              ∙ (set-at (x .registers) d d _ refl (in-x d l)
-              ∙ (ap₂ (λ bytes p. getD bytes (usedAt m p) 0) (h .0) (pair-same (pointerPair m) (pointer-in m) (h .1))
-              ∙ sym (back-off m d (pairOf (y .registers) (pointerPair m)) (set (y .registers) d _) n ∙ set-at (y .registers) d d _ refl (in-y d l))))))
-      , back-local m (set (x .registers) d _) (set (y .registers) d _) (effectOf (Load m d) x) (effectOf (Load m d) y) (length-set (x .registers) d _ ∙ wide x fx) (length-set (y .registers) d _ ∙ wide y fy) refl refl)
+  load-local m d l n = (
+    (λ h.
+        reg-holds (effectOf (Load m d) x) (effectOf (Load m d) y) d l
+        (back-off m d (pairOf (x .registers) (pointerPair m)) (set (x .registers) d _) n
+        ∙ (set-at (x .registers) d d _ refl (in-x d l)
+        ∙ (ap₂ (λ bytes p. getD bytes (usedAt m p) 0) (h .0) (pair-same (pointerPair m) (pointer-in m) (h .1))
+        ∙ sym (back-off m d (pairOf (y .registers) (pointerPair m)) (set (y .registers) d _) n ∙ set-at (y .registers) d d _ refl (in-y d l)))))),
+    back-local m (set (x .registers) d _) (set (y .registers) d _) (effectOf (Load m d) x) (effectOf (Load m d) y) (length-set (x .registers) d _ ∙ wide x fx) (length-set (y .registers) d _ ∙ wide y fy) refl refl,
+  )
 
   store-local : (m : Mode) (r : ℕ) → r < 32 → EachRow (Local (effectOf (Store m r) x) (effectOf (Store m r) y)) (rowsOf (Store m r))
-  store-local m r l =
-      ( (λ h. stored-memory (usedAt m) (pointerPair m) r (pointer-in m) l h)
-      , back-local m (x .registers) (y .registers) (effectOf (Store m r) x) (effectOf (Store m r) y) (wide x fx) (wide y fy) refl refl)
+  store-local m r l = (
+    (λ h. stored-memory (usedAt m) (pointerPair m) r (pointer-in m) l h),
+    back-local m (x .registers) (y .registers) (effectOf (Store m r) x) (effectOf (Store m r) y) (wide x fx) (wide y fy) refl refl,
+  )
 
   displaced-load : (b : Base) (q d : ℕ) → d < 32 → EachRow (Local (effectOf (LoadDisplaced b q d) x) (effectOf (LoadDisplaced b q d) y)) (rowsOf (LoadDisplaced b q d))
-  displaced-load b q d l =
-      ( (λ h.
-          reg-holds (effectOf (LoadDisplaced b q d) x) (effectOf (LoadDisplaced b q d) y) d l
-            (set-at (x .registers) d d _ refl (in-x d l)
-              ∙ (ap₂ (λ bytes p. getD bytes ((p + q) % 65536) 0) (h .0) (pair-same (basePair b) (base-in b) (h .1))
-              ∙ sym (set-at (y .registers) d d _ refl (in-y d l)))))
-      , tt)
+  displaced-load b q d l = (
+    (λ h.
+        reg-holds (effectOf (LoadDisplaced b q d) x) (effectOf (LoadDisplaced b q d) y) d l
+        (set-at (x .registers) d d _ refl (in-x d l)
+        ∙ (ap₂ (λ bytes p. getD bytes ((p + q) % 65536) 0) (h .0) (pair-same (basePair b) (base-in b) (h .1))
+        ∙ sym (set-at (y .registers) d d _ refl (in-y d l))))),
+    tt,
+  )
 
   displaced-store : (b : Base) (q r : ℕ) → r < 32 → EachRow (Local (effectOf (StoreDisplaced b q r) x) (effectOf (StoreDisplaced b q r) y)) (rowsOf (StoreDisplaced b q r))
   displaced-store b q r l = ((λ h. stored-memory (λ p. (p + q) % 65536) (basePair b) r (base-in b) l h), tt)

@@ -19,7 +19,7 @@ pub by-place : (x y : Core) (p : ℕ) → (p < 32 → reg (x .registers) p ≡ r
 by-place x y p f g h k = go (ltb p 32) (eqb p 32) (eqb p 33) (eqb p 34) refl refl refl refl
   where
     go : (a b c d : Bool) → ltb p 32 ≡ a → eqb p 32 ≡ b → eqb p 33 ≡ c → eqb p 34 ≡ d →
-      cond a (reg (x .registers) p ∷ []) (cond b (bit (x .carry) ∷ []) (cond c (bit (x .zero) ∷ []) (cond d (x .memory) []))) ≡ cond a (reg (y .registers) p ∷ []) (cond b (bit (y .carry) ∷ []) (cond c (bit (y .zero) ∷ []) (cond d (y .memory) [])))
+        cond a (reg (x .registers) p ∷ []) (cond b (bit (x .carry) ∷ []) (cond c (bit (x .zero) ∷ []) (cond d (x .memory) []))) ≡ cond a (reg (y .registers) p ∷ []) (cond b (bit (y .carry) ∷ []) (cond c (bit (y .zero) ∷ []) (cond d (y .memory) [])))
     go true b c d e₁ e₂ e₃ e₄ = ap (λ n. n ∷ []) (f (ltb-true _ _ e₁))
     go false true c d e₁ e₂ e₃ e₄ = ap (λ t. bit t ∷ []) (g (eqb-true _ _ e₂))
     go false false true d e₁ e₂ e₃ e₄ = ap (λ t. bit t ∷ []) (h (eqb-true _ _ e₃))

@@ -176,20 +176,20 @@ put-same : (w : Location) (n : ℕ) (x y : Core) (q : ℕ) → validOf w ≡ tru
 put-same (location.Register d) n x y q v fx fy h =
     let l = ltb-true d 32 v in
     by-place (putOf (location.Register d) n x) (putOf (location.Register d) n y) q
-      (λ l′. set-either (x .registers) (y .registers) d q n n (omega (arith, wide x fx)) (omega (arith, wide y fy)) (λ e. refl) (λ o. reg-same x y q l′ h))
-      (λ e. carry-same x y (rw e at h)) (λ e. zero-same x y (rw e at h)) (λ e. rw e at h)
+    (λ l′. set-either (x .registers) (y .registers) d q n n (omega (arith, wide x fx)) (omega (arith, wide y fy)) (λ e. refl) (λ o. reg-same x y q l′ h))
+    (λ e. carry-same x y (rw e at h)) (λ e. zero-same x y (rw e at h)) (λ e. rw e at h)
 put-same (location.Memory a) n x y q v fx fy h =
     by-place (putOf (location.Memory a) n x) (putOf (location.Memory a) n y) q
-      (λ l. reg-same x y q l h) (λ e. carry-same x y (rw e at h)) (λ e. zero-same x y (rw e at h)) (λ e. let m : x .memory ≡ y .memory = rw e at h in ap (λ l. set l a n) m)
+    (λ l. reg-same x y q l h) (λ e. carry-same x y (rw e at h)) (λ e. zero-same x y (rw e at h)) (λ e. let m : x .memory ≡ y .memory = rw e at h in ap (λ l. set l a n) m)
 
 put-else : (w : Location) (n k : ℕ) (x y : Core) (q : ℕ) → validOf w ≡ true → (q ≡ placeOf w → ⊥) → holdsOf x q ≡ holdsOf y q → holdsOf (putOf w n x) q ≡ holdsOf (putOf w k y) q
 put-else (location.Register d) n k x y q v o h =
     by-place (putOf (location.Register d) n x) (putOf (location.Register d) k y) q
-      (λ l. set-off (x .registers) d q n (ne-eqb q d o) ∙ (reg-same x y q l h ∙ sym (set-off (y .registers) d q k (ne-eqb q d o))))
-      (λ e. carry-same x y (rw e at h)) (λ e. zero-same x y (rw e at h)) (λ e. rw e at h)
+    (λ l. set-off (x .registers) d q n (ne-eqb q d o) ∙ (reg-same x y q l h ∙ sym (set-off (y .registers) d q k (ne-eqb q d o))))
+    (λ e. carry-same x y (rw e at h)) (λ e. zero-same x y (rw e at h)) (λ e. rw e at h)
 put-else (location.Memory a) n k x y q v o h =
     by-place (putOf (location.Memory a) n x) (putOf (location.Memory a) k y) q
-      (λ l. reg-same x y q l h) (λ e. carry-same x y (rw e at h)) (λ e. zero-same x y (rw e at h)) (λ e. absurd (o e))
+    (λ l. reg-same x y q l h) (λ e. carry-same x y (rw e at h)) (λ e. zero-same x y (rw e at h)) (λ e. absurd (o e))
 
 get-same : (w : Location) (x y : Core) → validOf w ≡ true → holdsOf x (placeOf w) ≡ holdsOf y (placeOf w) → getOf w x ≡ getOf w y
 get-same (location.Register d) x y v h = reg-same x y d (ltb-true d 32 v) h
@@ -197,16 +197,16 @@ get-same (location.Memory a) x y v h = let m : x .memory ≡ y .memory = h in ap
 
 pub sound : (ws : List ℕ) → Sound (avr ws)
 sound ws =
-    record
-      { positive = λ a. positive a (instructionOf ws a)
-      ; local = λ a p x y fx fy w h. local x y fx fy (instructionOf ws a) (named ws a) p _ (written (comesFrom (instructionOf ws a) p) w) h
-      ; kept = λ a p x w. kept x p (instructionOf ws a) (unwritten (comesFrom (instructionOf ws a) p) w)
-      ; decided = λ a qs b c b′ c′ e x y h. decided x y (instructionOf ws a) (named ws a) (rw (fork-deciders (routeOf a (instructionOf ws a)) (instructionOf ws a) qs b c b′ c′ e) h)
-      ; still = λ a qs b c b′ c′ e p. still-by a (instructionOf ws a) (rw e tt) p
-      ; fine-blank = and-from _ _ (eq-eqb _ _ (length-replicate {A = ℕ} 32 0)) (eq-eqb _ _ (length-replicate {A = ℕ} 65536 0))
-      ; fine-effect = λ a x h. fine-effect (instructionOf ws a) x h
-      ; fine-put = fine-put
-      ; put-same = put-same
-      ; put-else = put-else
-      ; get-same = get-same
-      }
+    record {
+      positive = λ a. positive a (instructionOf ws a);
+      local = λ a p x y fx fy w h. local x y fx fy (instructionOf ws a) (named ws a) p _ (written (comesFrom (instructionOf ws a) p) w) h;
+      kept = λ a p x w. kept x p (instructionOf ws a) (unwritten (comesFrom (instructionOf ws a) p) w);
+      decided = λ a qs b c b′ c′ e x y h. decided x y (instructionOf ws a) (named ws a) (rw (fork-deciders (routeOf a (instructionOf ws a)) (instructionOf ws a) qs b c b′ c′ e) h);
+      still = λ a qs b c b′ c′ e p. still-by a (instructionOf ws a) (rw e tt) p;
+      fine-blank = and-from _ _ (eq-eqb _ _ (length-replicate {A = ℕ} 32 0)) (eq-eqb _ _ (length-replicate {A = ℕ} 65536 0));
+      fine-effect = λ a x h. fine-effect (instructionOf ws a) x h;
+      fine-put = fine-put;
+      put-same = put-same;
+      put-else = put-else;
+      get-same = get-same;
+    }

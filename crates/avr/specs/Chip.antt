@@ -66,18 +66,18 @@ getOf (location.Memory a) x = getD (x .memory) a 0
 
 abbrev pub avr : List ℕ → Machine Core (List ℕ) Location
 avr ws =
-    record
-      { size = length ws
-      ; kind = λ a. kindOf a (instructionOf ws a)
-      ; writes = λ a p. isSome (comesFrom (instructionOf ws a) p)
-      ; sources = λ a p. valueOr (comesFrom (instructionOf ws a) p) []
-      ; effect = λ a. effectOf (instructionOf ws a)
-      ; decides = λ a. divertsOf (instructionOf ws a)
-      ; holds = holdsOf
-      ; blank = blankCore
-      ; fine = fineCore
-      ; place = placeOf
-      ; valid = validOf
-      ; put = putOf
-      ; get = getOf
-      }
+    record {
+      size = length ws;
+      kind = λ a. kindOf a (instructionOf ws a);
+      writes = λ a p. isSome (comesFrom (instructionOf ws a) p);
+      sources = λ a p. valueOr (comesFrom (instructionOf ws a) p) [];
+      effect = λ a. effectOf (instructionOf ws a);
+      decides = λ a. divertsOf (instructionOf ws a);
+      holds = holdsOf;
+      blank = blankCore;
+      fine = fineCore;
+      place = placeOf;
+      valid = validOf;
+      put = putOf;
+      get = getOf;
+    }

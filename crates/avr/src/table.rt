@@ -8,9 +8,14 @@ ghost use Rattle.avr.specs.Effects.{pointerPair, basePair};
 ghost use Rattle.avr.specs.Table.{row, lookup, flagsOnly, binaryRows, unaryRows, pairRows, backRows, loadRow, storeRow, comesFrom, decidersOf};
 ghost use Rattle.avr.specs.Lists.{listOf};
 ghost use Rattle.avr.specs.Exact.{Table-exact};
-
 use crate::sources::Sources;
-use words::instruction::{Base, BinaryOp, Flag, ImmediateOp, Instruction, Mode, UnaryOp};
+use words::instruction::Base;
+use words::instruction::BinaryOp;
+use words::instruction::Flag;
+use words::instruction::ImmediateOp;
+use words::instruction::Instruction;
+use words::instruction::Mode;
+use words::instruction::UnaryOp;
 
 /// The place of the carry flag; the registers are the places below 32.
 pub const CARRY: u16 = 32;
@@ -28,7 +33,8 @@ fn binary(op: BinaryOp, d: u16, r: u16, place: u16) -> Option<Sources>
         BinaryOp::Add | BinaryOp::Sub if place == d || flag => Some(Sources::Two(d, r)),
         BinaryOp::Cp if flag => Some(Sources::Two(d, r)),
         BinaryOp::Mul if place == 0 || place == 1 || flag => Some(Sources::Two(d, r)),
-        BinaryOp::And | BinaryOp::Eor | BinaryOp::Or if place == d || place == ZERO => Some(Sources::Two(d, r)),
+        BinaryOp::And | BinaryOp::Eor | BinaryOp::Or if place == d || place == ZERO =>
+            Some(Sources::Two(d, r)),
         BinaryOp::Adc if place == d || flag => Some(Sources::Three(d, CARRY, r)),
         BinaryOp::Sbc if place == d || place == CARRY => Some(Sources::Three(d, CARRY, r)),
         BinaryOp::Cpc if place == CARRY => Some(Sources::Three(d, CARRY, r)),
@@ -59,8 +65,12 @@ fn unary(op: UnaryOp, d: u16, place: u16) -> Option<Sources>
     ensures { λ v. ⌜ mapped listOf v ≡ lookup place (unaryRows op d) ⌝ }
 {
     match op {
-        UnaryOp::Neg | UnaryOp::Lsr if place == d || place == CARRY || place == ZERO => Some(Sources::One(d)),
-        UnaryOp::Ror if place == d || place == CARRY || place == ZERO => Some(Sources::Two(d, CARRY)),
+        UnaryOp::Neg | UnaryOp::Lsr if place == d || place == CARRY || place == ZERO =>
+            Some(Sources::One(d)),
+        UnaryOp::Ror if place == d || place == CARRY || place == ZERO => Some(Sources::Two(
+            d,
+            CARRY,
+        )),
         UnaryOp::Inc | UnaryOp::Dec if place == d || place == ZERO => Some(Sources::One(d)),
         _ => None,
     }
@@ -94,7 +104,11 @@ fn pair(d: u16, place: u16) -> Option<Sources>
     requires { ⌜ d < 256 ⌝ }
     ensures { λ v. ⌜ mapped listOf v ≡ lookup place (pairRows d) ⌝ }
 {
-    if place == d || place == d + 1 { Some(Sources::Two(d, d + 1)) } else { None }
+    if place == d || place == d + 1 {
+        Some(Sources::Two(d, d + 1))
+    } else {
+        None
+    }
 }
 
 /// What a place comes from where a mode writes its pointer back.
@@ -126,7 +140,11 @@ fn loaded(d: u16, pointer: u16, place: u16) -> Option<Sources>
     requires { ⌜ pointer < 31 ⌝ }
     ensures { λ v. ⌜ mapped listOf v ≡ lookup place (loadRow d pointer ∷ []) ⌝ }
 {
-    if place == d { Some(Sources::Three(MEMORY, pointer, pointer + 1)) } else { None }
+    if place == d {
+        Some(Sources::Three(MEMORY, pointer, pointer + 1))
+    } else {
+        None
+    }
 }
 
 /// What the memory comes from where the register r is stored by the pointer at `pointer`, if that is the place.
@@ -134,7 +152,11 @@ fn stored(r: u16, pointer: u16, place: u16) -> Option<Sources>
     requires { ⌜ pointer < 31 ⌝ }
     ensures { λ v. ⌜ mapped listOf v ≡ lookup place (storeRow r pointer ∷ []) ⌝ }
 {
-    if place == MEMORY { Some(Sources::Four(MEMORY, pointer, pointer + 1, r)) } else { None }
+    if place == MEMORY {
+        Some(Sources::Four(MEMORY, pointer, pointer + 1, r))
+    } else {
+        None
+    }
 }
 
 /// What a place comes from in a copy of one pair to another.
@@ -161,8 +183,14 @@ fn entry(instruction: Instruction, place: u16) -> Option<Sources>
         Instruction::Wide { d, .. } => wide(u16::from(d), place),
         Instruction::Movw { d, r } => copied(u16::from(d), u16::from(r), place),
         Instruction::Unary { op, d } => unary(op, u16::from(d), place),
-        Instruction::Load { mode, d } => loaded(u16::from(d), pointer(mode), place).or(write_back(mode, place)),
-        Instruction::Store { mode, r } => stored(u16::from(r), pointer(mode), place).or(write_back(mode, place)),
+        Instruction::Load { mode, d } => loaded(u16::from(d), pointer(mode), place).or(write_back(
+            mode,
+            place,
+        )),
+        Instruction::Store { mode, r } => stored(u16::from(r), pointer(mode), place).or(write_back(
+            mode,
+            place,
+        )),
         Instruction::LoadDisplaced { base, d, .. } => loaded(u16::from(d), start(base), place),
         Instruction::StoreDisplaced { base, r, .. } => stored(u16::from(r), start(base), place),
         Instruction::Clc if place == CARRY => Some(Sources::Nothing),
@@ -185,9 +213,19 @@ pub fn deciders(instruction: Instruction) -> Sources
     ensures { λ r. ⌜ listOf r ≡ decidersOf instruction ⌝ }
 {
     match instruction {
-        Instruction::Binary { op: BinaryOp::Cpse, d, r } => Sources::Two(u16::from(d), u16::from(r)),
-        Instruction::Branch { flag: Flag::Carry, .. } => Sources::One(CARRY),
-        Instruction::Branch { flag: Flag::Zero, .. } => Sources::One(ZERO),
+        Instruction::Binary {
+            op: BinaryOp::Cpse,
+            d,
+            r,
+        } => Sources::Two(u16::from(d), u16::from(r)),
+        Instruction::Branch {
+            flag: Flag::Carry,
+            ..
+        } => Sources::One(CARRY),
+        Instruction::Branch {
+            flag: Flag::Zero,
+            ..
+        } => Sources::One(ZERO),
         _ => Sources::Nothing,
     }
 }

@@ -87,6 +87,6 @@ pub run-more : (ws vs : List ℕ) (limit : ℕ) (s u t : State Core) (e : Ending
 run-more ws vs limit s u t e p q r = more s u t e (ap (λ us. step (avr us) limit s) (sym p) ∙ sym q) r
 
 pub ran : (ws : List ℕ) (limit : ℕ) (p q : Phase) (s t : State Core) (e : Ending) → (p ≡ phase.Loading) ⊎ (p ≡ phase.Running) → q ≡ phaseOf e → Runs (avr ws) limit s t e →
-  did t q (ends e) ≡ doesAt (avr ws) (run limit) p s
+    did t q (ends e) ≡ doesAt (avr ws) (run limit) p s
 ran ws limit p q s t e (inl h) k r = rw (h, k) (sym (ap finished (finish (avr ws) (λ a. positive a (instructionOf ws a)) limit s t e r)))
 ran ws limit p q s t e (inr h) k r = rw (h, k) (sym (ap finished (finish (avr ws) (λ a. positive a (instructionOf ws a)) limit s t e r)))

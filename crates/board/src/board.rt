@@ -4,7 +4,6 @@ ghost use Prim.Native.Nat.{_<_, _≤_};
 ghost use lib.ListN.{length};
 ghost use denote.Ref.{now};
 ghost use Rattle.board.specs.Cells.{Fetched};
-
 use crate::cell::Cell;
 use crate::chip::Chip;
 use machine::phase::Phase;

@@ -3,7 +3,6 @@ ghost use mathlib.Core.Path.{_≡_};
 ghost use Rattle.verdicts.specs.Verdict.{numberOf};
 ghost use Rattle.board.specs.declared.fault.MakingFault.the-variants.{Words};
 ghost use Rattle.board.specs.Faults.{makingRefusal, callRefusal};
-
 use words::fault::WordFault;
 
 /// Why a board cannot be made.

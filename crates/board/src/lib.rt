@@ -1,5 +1,5 @@
 //! The board.
+pub mod board;
 mod cell;
 mod chip;
-pub mod board;
 pub mod fault;

@@ -7,5 +7,4 @@ ghost use Rattle.cases.specs.Cases.{Cases-stand};
 /// Every row of the table of worked examples holds of the definitions.
 pub fn cases_stand()
     ensures { λ _. ⌜ Cases-stand ⌝ }
-{
-}
+{}

@@ -53,7 +53,7 @@ module _ {B V W : Type 0} (M : Machine B V W) where
   Ran limit s f = Runs M limit s (f .state) (f .ending)
 
   ran-by : (n limit : ℕ) (s : State B) → limit - s .count < suc n → ((u : State B) → limit - u .count < n → Ran limit u (runFor M n limit u)) →
-    (k : Step B) → step M limit s ≡ k → Grows limit (s .count) k → Ran limit s (rest n limit k)
+      (k : Step B) → step M limit s ≡ k → Grows limit (s .count) k → Ran limit s (rest n limit k)
   ran-by n limit s h later (moves u) p g = more s u _ _ p (later u (omega (arith, g .0, g .1)))
   ran-by n limit s h later (stops t e) p g = last s t e p
 

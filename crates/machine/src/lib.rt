@@ -11,5 +11,4 @@ pub mod phase;
 /// limit where it is spent. The law stands in the contract; the call itself answers nothing.
 pub fn counts_stand()
     ensures { λ _. ⌜ Counts-stand ⌝ }
-{
-}
+{}

@@ -2,7 +2,14 @@
 //!
 //! What is printed is tested, by the vectors, and not proved: a contract cannot speak of a width.
 use std::fmt;
-use words::instruction::{Base, BinaryOp, Flag, ImmediateOp, Instruction, Mode, UnaryOp, WideOp};
+use words::instruction::Base;
+use words::instruction::BinaryOp;
+use words::instruction::Flag;
+use words::instruction::ImmediateOp;
+use words::instruction::Instruction;
+use words::instruction::Mode;
+use words::instruction::UnaryOp;
+use words::instruction::WideOp;
 
 /// The mnemonic of an operation.
 fn binary(op: BinaryOp) -> &'static str {
@@ -113,7 +120,11 @@ impl fmt::Display for Displaced as DisplacedDisplay {
     fn fmt<W: fmt::Write>(&self, f: &mut fmt::Formatter<W>) -> fmt::Result {
         let base = self.0;
         let q = self.1;
-        if q == 0 { write!(f, "{base}") } else { write!(f, "{base}+{q}") }
+        if q == 0 {
+            write!(f, "{base}")
+        } else {
+            write!(f, "{base}+{q}")
+        }
     }
 }
 
@@ -143,8 +154,18 @@ pub impl fmt::Display for Assembly as AssemblyDisplay {
             Instruction::Unary { op, d } => one(f, unary(op), Register(d)),
             Instruction::Load { mode, d } => two(f, "ld", Register(d), pointer(mode)),
             Instruction::Store { mode, r } => two(f, "st", pointer(mode), Register(r)),
-            Instruction::LoadDisplaced { base, q, d } => two(f, if q == 0 { "ld" } else { "ldd" }, Register(d), Displaced(start(base), q)),
-            Instruction::StoreDisplaced { base, q, r } => two(f, if q == 0 { "st" } else { "std" }, Displaced(start(base), q), Register(r)),
+            Instruction::LoadDisplaced { base, q, d } => two(
+                f,
+                if q == 0 { "ld" } else { "ldd" },
+                Register(d),
+                Displaced(start(base), q),
+            ),
+            Instruction::StoreDisplaced { base, q, r } => two(
+                f,
+                if q == 0 { "st" } else { "std" },
+                Displaced(start(base), q),
+                Register(r),
+            ),
             Instruction::Rjmp { k } => one(f, "rjmp", Distance(k)),
             Instruction::Rcall { k } => one(f, "rcall", Distance(k)),
             Instruction::Branch { flag, set, k } => one(f, branch(flag, set), Distance(k)),
@@ -156,11 +177,20 @@ pub impl fmt::Display for Assembly as AssemblyDisplay {
 }
 
 /// A mnemonic with one operand.
-fn one<W: fmt::Write, A: fmt::Display + Drop>(f: &mut fmt::Formatter<W>, mnemonic: &str, a: A) -> fmt::Result {
+fn one<W: fmt::Write, A: fmt::Display + Drop>(
+    f: &mut fmt::Formatter<W>,
+    mnemonic: &str,
+    a: A,
+) -> fmt::Result {
     write!(f, "{mnemonic} {a}")
 }
 
 /// A mnemonic with two operands.
-fn two<W: fmt::Write, A: fmt::Display + Drop, B: fmt::Display + Drop>(f: &mut fmt::Formatter<W>, mnemonic: &str, a: A, b: B) -> fmt::Result {
+fn two<W: fmt::Write, A: fmt::Display + Drop, B: fmt::Display + Drop>(
+    f: &mut fmt::Formatter<W>,
+    mnemonic: &str,
+    a: A,
+    b: B,
+) -> fmt::Result {
     write!(f, "{mnemonic} {a}, {b}")
 }

@@ -34,7 +34,10 @@ fn run(rt: &LibcRuntime) -> Result<(), AnyError> {
         }
         read = read.saturating_add(1);
     }
-    println!(rt, "{read} words read, {differing} differ, {again} encode back to themselves")?;
+    println!(
+        rt,
+        "{read} words read, {differing} differ, {again} encode back to themselves"
+    )?;
     Ok(())
 }
 

@@ -68,7 +68,7 @@ module _ (f : ℕ → Verdict) where
 
   -- the first n rules come to nothing, or one of them is the first that is broken
   named-at : (n : ℕ) (v w : Verdict) → first f n ≡ v → f n ≡ w → (r : Refusal) → andThen v w ≡ refused r →
-    ((s : Refusal) → first f n ≡ refused s → Breaks-first f n s) → Breaks-first f (suc n) r
+      ((s : Refusal) → first f n ≡ refused s → Breaks-first f n s) → Breaks-first f (suc n) r
   named-at n fine w e d r h before = (n, (omega arith), (d ∙ h), first-each n e)
   named-at n (refused s) w e d r h before =
       let q : s ≡ r = cc in

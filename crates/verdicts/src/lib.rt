@@ -8,5 +8,4 @@ ghost use Rattle.verdicts.specs.Laws.{First-broken-stands};
 /// The law stands in the contract; the call itself answers nothing.
 pub fn first_broken_stands()
     ensures { λ _. ⌜ First-broken-stands ⌝ }
-{
-}
+{}

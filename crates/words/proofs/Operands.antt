@@ -91,7 +91,7 @@ displaced-ranged : (w : ℕ) → Ranged (displacedOf w)
 displaced-ranged w =
     let f = λ (b : Base). cond (eqb (bits w 9 1) 0) (LoadDisplaced b (displacement w) (registerD w)) (StoreDisplaced b (displacement w) (registerD w)) in
     only-ranged (eqb (bits w 14 2) 0b10 && eqb (bits w 12 1) 0) (mapped f (baseNamed (bits w 3 1))) (mapped-ranged f (baseNamed (bits w 3 1))
-      (λ b. cond-operands (eqb (bits w 9 1) 0) (LoadDisplaced b (displacement w) (registerD w)) (StoreDisplaced b (displacement w) (registerD w)) (omega arith, omega arith) (omega arith, omega arith)))
+    (λ b. cond-operands (eqb (bits w 9 1) 0) (LoadDisplaced b (displacement w) (registerD w)) (StoreDisplaced b (displacement w) (registerD w)) (omega arith, omega arith) (omega arith, omega arith)))
 
 jump-ranged : (w : ℕ) → Ranged (jumpOf w)
 jump-ranged w =
@@ -105,9 +105,25 @@ branch-ranged w =
     only-ranged (eqb (bits w 11 5) 0b11110) (mapped f (flagNamed (bits w 0 3))) (mapped-ranged f (flagNamed (bits w 0 3)) (λ g. tt))
 
 all-ranged : (w : ℕ) → AllRanged (readings w)
-all-ranged w =
-    (binary-ranged w, (immediate-ranged w, (wide-ranged w, (movw-ranged w, (unary-ranged w, (pointing-ranged w,
-    (displaced-ranged w, (jump-ranged w, (branch-ranged w, (fixed-ranged (eqb w 0x9508) (eqb w 0x9488) (eqb w 0x0000), tt))))))))))
+all-ranged w = (
+  binary-ranged w,
+  (
+    immediate-ranged w,
+    (
+      wide-ranged w,
+      (
+        movw-ranged w,
+        (
+          unary-ranged w,
+          (
+            pointing-ranged w,
+            (displaced-ranged w, (jump-ranged w, (branch-ranged w, (fixed-ranged (eqb w 0x9508) (eqb w 0x9488) (eqb w 0x0000), tt)))),
+          ),
+        ),
+      ),
+    ),
+  ),
+)
 
 pub operands : (w : ℕ) (i : Instruction) → decodeOf w ≡ Some i → Operands i
 unfolding decodeOf

@@ -2,8 +2,13 @@
 ghost use mathlib.Core.Path.{_≡_};
 ghost use Prim.Native.Nat.{_<_};
 ghost use Rattle.words.specs.Codes.{binaryCode, binaryNamed, immediateCode, immediateNamed, wideCode, wideNamed, unaryCode, unaryNamed, modeCode, modeNamed, baseCode, baseNamed, flagCode, flagNamed};
-
-use crate::instruction::{Base, BinaryOp, Flag, ImmediateOp, Mode, UnaryOp, WideOp};
+use crate::instruction::Base;
+use crate::instruction::BinaryOp;
+use crate::instruction::Flag;
+use crate::instruction::ImmediateOp;
+use crate::instruction::Mode;
+use crate::instruction::UnaryOp;
+use crate::instruction::WideOp;
 
 impl BinaryOp {
     /// Its number in a word: bits 15 to 10 of a word on two registers.

@@ -6,8 +6,14 @@ ghost use lib.Dec.{T};
 ghost use Rattle.std.specs.Options.{isSome};
 ghost use Rattle.words.specs.Fields.{bits as bitsOf, signed as signedOf};
 ghost use Rattle.words.specs.Decode.{binaryOf, immediateOf, wideOf, movwOf, unaryOf, pointersOf, pointerOf, displacedOf, jumpOf, branchOf, fixedOf, decodeOf, registerD, displacement as displacementOf, writtenBack, inPair};
-
-use crate::instruction::{Base, BinaryOp, Flag, ImmediateOp, Instruction, Mode, UnaryOp, WideOp};
+use crate::instruction::Base;
+use crate::instruction::BinaryOp;
+use crate::instruction::Flag;
+use crate::instruction::ImmediateOp;
+use crate::instruction::Instruction;
+use crate::instruction::Mode;
+use crate::instruction::UnaryOp;
+use crate::instruction::WideOp;
 
 /// The number in the `count` bits of a word that begin at bit `low`.
 fn bits(word: u16, low: u32, count: u32) -> u16
@@ -23,7 +29,11 @@ fn signed(field: u16, half: u16) -> i16
     requires { ⌜ half ≤ 2048 ⌝ ∗ ⌜ field < 2 * half ⌝ }
     ensures { λ r. ⌜ r ≡ signedOf half field ⌝ }
 {
-    if field < half { field as i16 } else { field as i16 - 2 * half as i16 }
+    if field < half {
+        field as i16
+    } else {
+        field as i16 - 2 * half as i16
+    }
 }
 
 /// The register in bits 8 to 4.
@@ -38,7 +48,11 @@ fn binary(word: u16) -> Option<Instruction>
     ensures { λ r. ⌜ r ≡ binaryOf word ⌝ }
 {
     match BinaryOp::from_code(bits(word, 10, 6)) {
-        Some(op) => Some(Instruction::Binary { op, d: register_d(word), r: (16 * bits(word, 9, 1) + bits(word, 0, 4)) as u8 }),
+        Some(op) => Some(Instruction::Binary {
+            op,
+            d: register_d(word),
+            r: (16 * bits(word, 9, 1) + bits(word, 0, 4)) as u8,
+        }),
         None => None,
     }
 }
@@ -47,7 +61,11 @@ fn immediate(word: u16) -> Option<Instruction>
     ensures { λ r. ⌜ r ≡ immediateOf word ⌝ }
 {
     match ImmediateOp::from_code(bits(word, 12, 4)) {
-        Some(op) => Some(Instruction::Immediate { op, d: 16 + bits(word, 4, 4) as u8, k: (16 * bits(word, 8, 4) + bits(word, 0, 4)) as u8 }),
+        Some(op) => Some(Instruction::Immediate {
+            op,
+            d: 16 + bits(word, 4, 4) as u8,
+            k: (16 * bits(word, 8, 4) + bits(word, 0, 4)) as u8,
+        }),
         None => None,
     }
 }
@@ -59,7 +77,11 @@ fn wide(word: u16) -> Option<Instruction>
         return None;
     }
     match WideOp::from_code(bits(word, 8, 1)) {
-        Some(op) => Some(Instruction::Wide { op, d: 24 + 2 * bits(word, 4, 2) as u8, k: (16 * bits(word, 6, 2) + bits(word, 0, 4)) as u8 }),
+        Some(op) => Some(Instruction::Wide {
+            op,
+            d: 24 + 2 * bits(word, 4, 2) as u8,
+            k: (16 * bits(word, 6, 2) + bits(word, 0, 4)) as u8,
+        }),
         None => None,
     }
 }
@@ -70,7 +92,10 @@ fn movw(word: u16) -> Option<Instruction>
     if bits(word, 8, 8) != 0b00000001 {
         return None;
     }
-    Some(Instruction::Movw { d: 2 * bits(word, 4, 4) as u8, r: 2 * bits(word, 0, 4) as u8 })
+    Some(Instruction::Movw {
+        d: 2 * bits(word, 4, 4) as u8,
+        r: 2 * bits(word, 0, 4) as u8,
+    })
 }
 
 fn unary(word: u16) -> Option<Instruction>
@@ -80,7 +105,10 @@ fn unary(word: u16) -> Option<Instruction>
         return None;
     }
     match UnaryOp::from_code(bits(word, 0, 4)) {
-        Some(op) => Some(Instruction::Unary { op, d: register_d(word) }),
+        Some(op) => Some(Instruction::Unary {
+            op,
+            d: register_d(word),
+        }),
         None => None,
     }
 }
@@ -150,8 +178,16 @@ fn displaced(word: u16) -> Option<Instruction>
     }
     let q = displacement(word);
     match Base::from_code(bits(word, 3, 1)) {
-        Some(base) if bits(word, 9, 1) == 0 => Some(Instruction::LoadDisplaced { base, q, d: register_d(word) }),
-        Some(base) => Some(Instruction::StoreDisplaced { base, q, r: register_d(word) }),
+        Some(base) if bits(word, 9, 1) == 0 => Some(Instruction::LoadDisplaced {
+            base,
+            q,
+            d: register_d(word),
+        }),
+        Some(base) => Some(Instruction::StoreDisplaced {
+            base,
+            q,
+            r: register_d(word),
+        }),
         None => None,
     }
 }
@@ -174,7 +210,11 @@ fn branch(word: u16) -> Option<Instruction>
         return None;
     }
     match Flag::from_code(bits(word, 0, 3)) {
-        Some(flag) => Some(Instruction::Branch { flag, set: bits(word, 10, 1) == 0, k: signed(bits(word, 3, 7), 64) }),
+        Some(flag) => Some(Instruction::Branch {
+            flag,
+            set: bits(word, 10, 1) == 0,
+            k: signed(bits(word, 3, 7), 64),
+        }),
         None => None,
     }
 }
@@ -195,7 +235,16 @@ impl Instruction {
     pub fn decode(word: u16) -> Option<Instruction>
         ensures { λ r. ⌜ r ≡ decodeOf word ⌝ }
     {
-        let constant = binary(word).or(immediate(word)).or(wide(word)).or(movw(word)).or(unary(word));
-        constant.or(pointers(word)).or(displaced(word)).or(jump(word)).or(branch(word)).or(fixed(word))
+        let constant = binary(word)
+            .or(immediate(word))
+            .or(wide(word))
+            .or(movw(word))
+            .or(unary(word));
+        constant
+            .or(pointers(word))
+            .or(displaced(word))
+            .or(jump(word))
+            .or(branch(word))
+            .or(fixed(word))
     }
 }

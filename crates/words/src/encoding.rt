@@ -4,7 +4,6 @@ ghost use mathlib.Core.Bool.{true};
 ghost use Prim.Native.Nat.{ℕ, _+_, _-_, _*_, _/_, _%_, _<_, _≤_};
 ghost use Rattle.words.specs.Fields.{unsigned as unsignedOf, fitsIn as fitsInOf};
 ghost use Rattle.words.specs.Encode.{encodable, spread as spreadOf, wordOf, encodeOf};
-
 use crate::instruction::Instruction;
 
 /// Whether a distance has a field with 2 * `half` values.
@@ -22,7 +21,11 @@ fn unsigned(half: u16, k: i16) -> u16
     ensures value { λ r. ⌜ r ≡ unsignedOf half k ⌝ }
     ensures small { λ r. ⌜ r < 2 * half ⌝ }
 {
-    if k < 0 { (k + 2 * half as i16) as u16 } else { k as u16 }
+    if k < 0 {
+        (k + 2 * half as i16) as u16
+    } else {
+        k as u16
+    }
 }
 
 /// Where a displacement's six bits lie in a word.
@@ -62,18 +65,37 @@ impl Instruction {
         ensures { λ r. ⌜ r ≡ wordOf self ⌝ }
     {
         match self {
-            Instruction::Binary { op, d, r } => 1024 * op.code() + 512 * u16::from(r / 16) + 16 * u16::from(d) + u16::from(r % 16),
-            Instruction::Immediate { op, d, k } => 4096 * op.code() + 256 * u16::from(k / 16) + 16 * u16::from(d - 16) + u16::from(k % 16),
-            Instruction::Wide { op, d, k } => 0x9600 + 256 * op.code() + 64 * u16::from(k / 16) + 16 * u16::from((d - 24) / 2) + u16::from(k % 16),
+            Instruction::Binary { op, d, r } => 1024 * op.code()
+                + 512 * u16::from(r / 16)
+                + 16 * u16::from(d)
+                + u16::from(r % 16),
+            Instruction::Immediate { op, d, k } => 4096 * op.code()
+                + 256 * u16::from(k / 16)
+                + 16 * u16::from(d - 16)
+                + u16::from(k % 16),
+            Instruction::Wide { op, d, k } => 0x9600
+                + 256 * op.code()
+                + 64 * u16::from(k / 16)
+                + 16 * u16::from((d - 24) / 2)
+                + u16::from(k % 16),
             Instruction::Movw { d, r } => 0x0100 + 16 * u16::from(d / 2) + u16::from(r / 2),
             Instruction::Unary { op, d } => 0x9400 + 16 * u16::from(d) + op.code(),
             Instruction::Load { mode, d } => 0x9000 + 16 * u16::from(d) + mode.code(),
             Instruction::Store { mode, r } => 0x9200 + 16 * u16::from(r) + mode.code(),
-            Instruction::LoadDisplaced { base, q, d } => 0x8000 + spread(q) + 16 * u16::from(d) + 8 * base.code(),
-            Instruction::StoreDisplaced { base, q, r } => 0x8200 + spread(q) + 16 * u16::from(r) + 8 * base.code(),
+            Instruction::LoadDisplaced { base, q, d } => 0x8000
+                + spread(q)
+                + 16 * u16::from(d)
+                + 8 * base.code(),
+            Instruction::StoreDisplaced { base, q, r } => 0x8200
+                + spread(q)
+                + 16 * u16::from(r)
+                + 8 * base.code(),
             Instruction::Rjmp { k } => 0xC000 + unsigned(2048, k),
             Instruction::Rcall { k } => 0xD000 + unsigned(2048, k),
-            Instruction::Branch { flag, set, k } => 0xF000 + if set { 0 } else { 1024 } + 8 * unsigned(64, k) + flag.code(),
+            Instruction::Branch { flag, set, k } => 0xF000
+                + if set { 0 } else { 1024 }
+                + 8 * unsigned(64, k)
+                + flag.code(),
             Instruction::Ret => 0x9508,
             Instruction::Clc => 0x9488,
             Instruction::Nop => 0x0000,
@@ -84,6 +106,10 @@ impl Instruction {
     pub fn encode(self) -> Option<u16>
         ensures { λ r. ⌜ r ≡ encodeOf self ⌝ }
     {
-        if self.is_encodable() { Some(self.word()) } else { None }
+        if self.is_encodable() {
+            Some(self.word())
+        } else {
+            None
+        }
     }
 }

@@ -2,8 +2,8 @@
 ghost use mathlib.Core.Path.{_≡_};
 ghost use Prim.Native.Nat.{ℕ, _+_, _<_, _≤_};
 ghost use Rattle.words.specs.Routes.{routeOf, binaryRoute, target as targetOf};
-
-use crate::instruction::{BinaryOp, Instruction};
+use crate::instruction::BinaryOp;
+use crate::instruction::Instruction;
 use crate::route::Route;
 
 /// What stands for an address below 0: no listing has it.
@@ -24,7 +24,10 @@ impl Instruction {
     {
         let next = u32::from(at) + 1;
         match self {
-            Instruction::Binary { op: BinaryOp::Cpse, .. } => Route::Fork(next, next + 1),
+            Instruction::Binary {
+                op: BinaryOp::Cpse,
+                ..
+            } => Route::Fork(next, next + 1),
             Instruction::Rjmp { k } => Route::To(target(at, k)),
             Instruction::Rcall { k } => Route::Call(target(at, k)),
             Instruction::Branch { k, .. } => Route::Fork(next, target(at, k)),

@@ -9,12 +9,13 @@ ghost use Rattle.avr.specs.Chip.{avr};
 ghost use Rattle.board.specs.Cells.{Fetched};
 ghost use Rattle.board.specs.Faults.{makingOf, makingRefusal, putAnswer, readAnswer};
 ghost use Rattle.board.specs.States.{boardOf, wordsOf, after, Lent};
-
 use crate::board::Board;
 use crate::cell::Cell;
 use crate::chip::Chip;
 use crate::chip::access::is_valid;
-use crate::fault::{CallFault, MakingFault, MakingFaultFromWords};
+use crate::fault::CallFault;
+use crate::fault::MakingFault;
+use crate::fault::MakingFaultFromWords;
 use avr::location::Location;
 use machine::phase::Phase;
 use words::instruction::Instruction;
@@ -28,7 +29,10 @@ fn cells_of(words: &[u16]) -> [Cell; 1024]
 {
     let mut cells = [Cell::new(0, Instruction::Nop); 1024];
     for at in 0..words.len() {
-        cells[at] = Cell::new(at as u16, Instruction::decode(words[at]).unwrap_or(Instruction::Nop));
+        cells[at] = Cell::new(
+            at as u16,
+            Instruction::decode(words[at]).unwrap_or(Instruction::Nop),
+        );
     }
     cells
 }
@@ -56,7 +60,16 @@ impl<'w, 'm> Board<'w, 'm> {
         let listing = Listing::new(words);
         let cells = cells_of(words);
         let chip = Chip::new(memory);
-        Board { listing, cells, chip, at: 0, returns: [0; 16], depth: 0, count: 0, phase: Phase::Loading }
+        Board {
+            listing,
+            cells,
+            chip,
+            at: 0,
+            returns: [0; 16],
+            depth: 0,
+            count: 0,
+            phase: Phase::Loading,
+        }
     }
 
     /// Sets everything to 0 again, and the phase to loading.

@@ -10,10 +10,11 @@ ghost use Rattle.avr.specs.Chip.{instructionOf, avr};
 ghost use Rattle.board.specs.Cells.{cellOf, kindIn};
 ghost use Rattle.board.specs.Cores.{coreOf};
 ghost use Rattle.board.specs.States.{stateOf, boardOf, heldOf, wordsOf, stepped, after, Lent};
-
 use crate::board::Board;
 use crate::cell::Cell;
-use machine::phase::{Ending, Phase, Stop};
+use machine::phase::Ending;
+use machine::phase::Phase;
+use machine::phase::Stop;
 use words::route::Route;
 
 /// The phase that an ending leaves a board in.

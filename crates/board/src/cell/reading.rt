@@ -5,7 +5,6 @@ ghost use Prim.Native.Nat.{ℕ, _+_, _≤_, _<_};
 ghost use Rattle.words.specs.declared.instruction.Instruction.the-variants.{Nop};
 ghost use Rattle.machine.specs.Run.{cyclesOf};
 ghost use Rattle.board.specs.Cells.{cellOf, kindIn};
-
 use crate::cell::Cell;
 use words::instruction::Instruction;
 use words::route::Route;
@@ -15,7 +14,12 @@ impl Cell {
     pub fn new(at: u16, instruction: Instruction) -> Cell
         ensures { λ r. ⌜ r ≡ cellOf at instruction ⌝ }
     {
-        Cell { instruction, route: instruction.route(at), on: instruction.cycles(false), aside: instruction.cycles(true) }
+        Cell {
+            instruction,
+            route: instruction.route(at),
+            on: instruction.cycles(false),
+            aside: instruction.cycles(true),
+        }
     }
 
     /// Its cycles, by whether it goes aside.

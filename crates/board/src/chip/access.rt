@@ -6,7 +6,6 @@ ghost use lib.ListN.{length};
 ghost use denote.Ref.{name};
 ghost use Rattle.avr.specs.Chip.{blankCore, putOf, getOf, validOf};
 ghost use Rattle.board.specs.Cores.{coreOf};
-
 use crate::chip::Chip;
 use avr::location::Location;
 
@@ -17,7 +16,12 @@ impl<'m> Chip<'m> {
         ensures state { λ r. ⌜ coreOf r ≡ blankCore ⌝ }
         ensures lent { λ r. ⌜ name (r .memory) ≡ name (memory .entry) ⌝ }
     {
-        let mut chip = Chip { memory, registers: [0; 32], carry: false, zero: false };
+        let mut chip = Chip {
+            memory,
+            registers: [0; 32],
+            carry: false,
+            zero: false,
+        };
         chip.clear();
         chip
     }

@@ -9,12 +9,16 @@ ghost use Rattle.alu.specs.Arithmetic.{wideOutput};
 ghost use Rattle.avr.specs.Core.{core, reg, pairOf, withPair};
 ghost use Rattle.avr.specs.Effects.{stored, compared, storedPair, binaryEffect, movwEffect, usedAt, writeBack, loadEffect, storeEffect, pointerPair, basePair, displacedAt, effectOf, flagOf, divertsOf};
 ghost use Rattle.board.specs.Cores.{coreOf};
-
 use crate::chip::Chip;
 use alu::arithmetic;
-use alu::output::{ByteOutput, WordOutput};
+use alu::output::ByteOutput;
+use alu::output::WordOutput;
 use avr::table;
-use words::instruction::{Base, BinaryOp, Flag, Instruction, Mode};
+use words::instruction::Base;
+use words::instruction::BinaryOp;
+use words::instruction::Flag;
+use words::instruction::Instruction;
+use words::instruction::Mode;
 
 impl Chip<'_> {
     /// The pair at d.
@@ -76,7 +80,13 @@ impl Chip<'_> {
         match op {
             BinaryOp::Mul => self.store_pair(0, arithmetic::product(a, b)),
             BinaryOp::Cpse => {}
-            BinaryOp::Cp | BinaryOp::Cpc => self.compare(arithmetic::binary(op, a, b, self.carry, self.zero)),
+            BinaryOp::Cp | BinaryOp::Cpc => self.compare(arithmetic::binary(
+                op,
+                a,
+                b,
+                self.carry,
+                self.zero,
+            )),
             _ => self.store(d, arithmetic::binary(op, a, b, self.carry, self.zero)),
         }
     }
@@ -147,13 +157,23 @@ impl Chip<'_> {
         match instruction {
             Instruction::Binary { op, d, r } => self.binary(op, d, self.registers[r as usize]),
             Instruction::Immediate { op, d, k } => self.binary(arithmetic::counterpart(op), d, k),
-            Instruction::Wide { op, d, k } => self.store_pair(u16::from(d), arithmetic::wide(op, self.pair(u16::from(d)), k)),
+            Instruction::Wide { op, d, k } => self.store_pair(
+                u16::from(d),
+                arithmetic::wide(op, self.pair(u16::from(d)), k),
+            ),
             Instruction::Movw { d, r } => self.copy_pair(d, r),
-            Instruction::Unary { op, d } => self.store(d, arithmetic::unary(op, self.registers[d as usize], self.carry)),
+            Instruction::Unary { op, d } => self.store(
+                d,
+                arithmetic::unary(op, self.registers[d as usize], self.carry),
+            ),
             Instruction::Load { mode, d } => self.load(mode, d),
             Instruction::Store { mode, r } => self.store_by(mode, r),
-            Instruction::LoadDisplaced { base, q, d } => self.registers[d as usize] = self.memory[self.displaced(base, q) as usize],
-            Instruction::StoreDisplaced { base, q, r } => self.memory[self.displaced(base, q) as usize] = self.registers[r as usize],
+            Instruction::LoadDisplaced { base, q, d } => self.registers[d as usize] =
+                self.memory[self.displaced(base, q) as usize],
+            Instruction::StoreDisplaced { base, q, r } => self.memory[self.displaced(
+                base,
+                q,
+            ) as usize] = self.registers[r as usize],
             Instruction::Clc => self.carry = false,
             _ => {}
         }
@@ -165,9 +185,21 @@ impl Chip<'_> {
         ensures { λ r. ⌜ r ≡ divertsOf instruction (coreOf (now (self .entry))) ⌝ }
     {
         match instruction {
-            Instruction::Binary { op: BinaryOp::Cpse, d, r } => self.registers[d as usize] == self.registers[r as usize],
-            Instruction::Branch { flag: Flag::Carry, set, .. } => self.carry == set,
-            Instruction::Branch { flag: Flag::Zero, set, .. } => self.zero == set,
+            Instruction::Binary {
+                op: BinaryOp::Cpse,
+                d,
+                r,
+            } => self.registers[d as usize] == self.registers[r as usize],
+            Instruction::Branch {
+                flag: Flag::Carry,
+                set,
+                ..
+            } => self.carry == set,
+            Instruction::Branch {
+                flag: Flag::Zero,
+                set,
+                ..
+            } => self.zero == set,
             _ => false,
         }
     }

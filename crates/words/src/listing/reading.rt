@@ -4,7 +4,6 @@ ghost use Prim.Native.Nat.{ℕ, _<_, _≤_};
 ghost use lib.ListN.{length};
 ghost use Rattle.verdicts.specs.Verdict.{fine, says};
 ghost use Rattle.words.specs.Legal.{legalOf, wordRefusal, instructionAt, wordAt};
-
 use crate::fault::WordFault;
 use crate::instruction::Instruction;
 use crate::listing::Listing;
@@ -44,13 +43,21 @@ impl<'a> Listing<'a> {
     pub fn word(&self, at: u16) -> Option<u16>
         ensures { λ r. ⌜ r ≡ wordAt (now (now (self .entry) .words)) at ⌝ }
     {
-        if (at as usize) < self.words.len() { Some(self.words[at as usize]) } else { None }
+        if (at as usize) < self.words.len() {
+            Some(self.words[at as usize])
+        } else {
+            None
+        }
     }
 
     /// The instruction at an address, if the address is in the listing.
     pub fn instruction(&self, at: u16) -> Option<Instruction>
         ensures { λ r. ⌜ r ≡ instructionAt (now (now (self .entry) .words)) at ⌝ }
     {
-        if (at as usize) < self.words.len() { Instruction::decode(self.words[at as usize]) } else { None }
+        if (at as usize) < self.words.len() {
+            Instruction::decode(self.words[at as usize])
+        } else {
+            None
+        }
     }
 }
