@@ -64,13 +64,10 @@ fn immediate(op: ImmediateOp, d: u16, place: u16) -> Option<Sources>
 fn unary(op: UnaryOp, d: u16, place: u16) -> Option<Sources>
     ensures { λ v. ⌜ mapped listOf v ≡ lookup place (unaryRows op d) ⌝ }
 {
+    let flag = place == CARRY || place == ZERO;
     match op {
-        UnaryOp::Neg | UnaryOp::Lsr if place == d || place == CARRY || place == ZERO =>
-            Some(Sources::One(d)),
-        UnaryOp::Ror if place == d || place == CARRY || place == ZERO => Some(Sources::Two(
-            d,
-            CARRY,
-        )),
+        UnaryOp::Neg | UnaryOp::Lsr if place == d || flag => Some(Sources::One(d)),
+        UnaryOp::Ror if place == d || flag => Some(Sources::Two(d, CARRY)),
         UnaryOp::Inc | UnaryOp::Dec if place == d || place == ZERO => Some(Sources::One(d)),
         _ => None,
     }
