@@ -7,7 +7,7 @@ use lib.IntN.{pos, negsuc}
 use lib.ListN.{getD, set, replicate}
 use Rattle.std.specs.declared.option.Option.{Option}
 use Rattle.std.specs.declared.option.Option.the-variants.{Some, None}
-use Rattle.verdicts.specs.Verdict.{Verdict, fine, refused, refusal, andThen}
+use Rattle.verdicts.specs.Verdict.{Verdict, fine, refused, refusal}
 use Rattle.words.specs.declared.instruction.BinaryOp.the-variants as binary
 use Rattle.words.specs.declared.instruction.ImmediateOp.the-variants as immediate
 use Rattle.words.specs.declared.instruction.WideOp.the-variants as wide
@@ -27,7 +27,7 @@ use Rattle.avr.specs.Effects.{effectOf}
 use Rattle.avr.specs.Chip.{avr, blankCore}
 use Rattle.levels.specs.Order.{Meaning}
 use Rattle.levels.specs.Chains.{chain}
-use Rattle.secrecy.specs.Rules.{rulesOf}
+use Rattle.judge.specs.Judgement.{judgementOf}
 
 -- a register and a byte in it
 pub record Byte : Type 0 where
@@ -70,7 +70,7 @@ Holds (decodes w o) = decodeOf w ≡ o
 Holds (works i before c z after c′ z′) = Left (effectOf i (core (loaded before) c z [])) after c′ z′
 Holds (runs ws limit e) = does (avr ws) (run limit) (fresh (avr ws)) .answer ≡ ends e
 Holds (always ws d e) = (v : ℕ) → v < 256 → does (avr ws) (run 1000) (does (avr ws) (put (Register d) v) (fresh (avr ws)) .board) .answer ≡ ends e
-Holds (judged ws rows m v) = andThen (legalOf ws) (rulesOf m (avr ws) rows) ≡ v
+Holds (judged ws rows m v) = judgementOf m ws rows ≡ v
 Holds (unlisted ws v) = legalOf ws ≡ v
 
 abbrev pub All : List Case → Type 0

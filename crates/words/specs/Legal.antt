@@ -22,9 +22,13 @@ Decodes ws = (k : ℕ) → k < length ws → isSome (decodeOf (getD ws k 0)) ≡
 abbrev pub decodesAt : List ℕ → ℕ → Verdict
 decodesAt ws at = rule (isSome (decodeOf (getD ws at 0))) 2 (at ∷ [])
 
--- refusal 1: there are no words, or more than 1,024; then refusal 2 at the first address that has it
+-- refusal 1: there are no words, or more than 1,024
+abbrev pub lengthOf : List ℕ → Verdict
+lengthOf ws = rule (leb 1 (length ws) && leb (length ws) 1024) 1 []
+
+-- refusal 1, then refusal 2 at the first address that has it
 abbrev pub legalOf : List ℕ → Verdict
-legalOf ws = andThen (rule (leb 1 (length ws) && leb (length ws) 1024) 1 []) (first (decodesAt ws) (length ws))
+legalOf ws = andThen (lengthOf ws) (first (decodesAt ws) (length ws))
 
 -- the refusal that each fault stands for
 abbrev pub wordRefusal : WordFault → Refusal

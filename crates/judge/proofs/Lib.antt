@@ -1,0 +1,4 @@
+pub mod Checks
+pub mod Callers
+pub mod Placed
+pub mod Judged

@@ -1,0 +1,4 @@
+pub mod Faults
+pub mod Judgement
+pub mod Views
+pub mod Worked
