@@ -15,10 +15,12 @@ use Rattle.words.specs.declared.instruction.UnaryOp.the-variants as unary
 use Rattle.alu.specs.declared.output.ByteOutput.{ByteOutput}
 use Rattle.alu.specs.declared.output.WordOutput.{WordOutput}
 
+-- a flag as a number
 abbrev pub bit : Bool → ℕ
 bit true = 1
 bit false = 0
 
+-- a byte with the flags C and Z
 abbrev pub output : ℕ → Bool → Bool → ByteOutput
 output v c z = record { value = v; carry = c; zero = z }
 
@@ -65,6 +67,7 @@ unaryOutput unary.Lsr a c = output (a / 2) (eqb (a % 2) 1) (eqb (a / 2) 0)
 unaryOutput unary.Ror a c = output (128 * bit c + a / 2) (eqb (a % 2) 1) (eqb (128 * bit c + a / 2) 0)
 unaryOutput unary.Dec a c = logicOf ((a + 255) % 256) c
 
+-- a 16-bit number with the carry; zero says that it is 0
 abbrev pub wordOutput : ℕ → Bool → WordOutput
 wordOutput v c = record { value = v; carry = c; zero = eqb v 0 }
 

@@ -1,4 +1,4 @@
-//! Values and flags.
+//! Values and flags of the operations.
 ghost use mathlib.Core.Path.{_≡_};
 ghost use Prim.Native.Nat.{_≤_, _<_};
 ghost use Rattle.alu.specs.Arithmetic.{sumOf, differenceOf, logicOf, binaryOutput, counterpart as counterpartOf, unaryOutput, wideOutput, productOf, wordOutput};
@@ -9,7 +9,8 @@ use words::instruction::ImmediateOp;
 use words::instruction::UnaryOp;
 use words::instruction::WideOp;
 
-fn sum(a: u8, b: u8, carry: bool) -> ByteOutput
+/// The sum of two bytes and a carry.
+pub fn sum(a: u8, b: u8, carry: bool) -> ByteOutput
     ensures { λ r. ⌜ r ≡ sumOf a b carry ⌝ }
 {
     let sum = u16::from(a) + u16::from(b) + u16::from(carry);
@@ -21,7 +22,8 @@ fn sum(a: u8, b: u8, carry: bool) -> ByteOutput
     }
 }
 
-fn difference(a: u8, b: u8, carry: bool, before: bool) -> ByteOutput
+/// A byte less another and a borrow; zero is set only if `before` was.
+pub fn difference(a: u8, b: u8, carry: bool, before: bool) -> ByteOutput
     ensures { λ r. ⌜ r ≡ differenceOf a b carry before ⌝ }
 {
     let difference = 256 + u16::from(a) - u16::from(b) - u16::from(carry);

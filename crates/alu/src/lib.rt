@@ -1,5 +1,6 @@
-//! The arithmetic and logic of the chip: values and flags, on bytes and on 16-bit numbers.
+//! The arithmetic and logic of the chip: from bytes, 16-bit numbers and the flags before to values and the flags after.
 //!
-//! Nothing here knows of registers, memory or cycles.
+//! It stands on `words` for the names of the operations. It knows nothing of registers, memory, addresses or cycles: where a
+//! result goes is for those above.
 pub mod arithmetic;
 pub mod output;

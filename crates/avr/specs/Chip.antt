@@ -32,18 +32,23 @@ kindBy (Fork b b′) i = forks (decidersOf i) b (cyclesOf i false) b′ (cyclesO
 kindBy (Call t) i = calls t (cyclesOf i true)
 kindBy Return i = rets (cyclesOf i true)
 
+-- where an instruction leads from its address
 abbrev pub kindOf : ℕ → Instruction → Kind
 kindOf a i = kindBy (routeOf a i) i
 
+-- how many registers there are
 abbrev pub registerCount : ℕ
 registerCount = 32
 
+-- how many bytes of memory there are
 abbrev pub memorySize : ℕ
 memorySize = 65536
 
+-- everything 0
 abbrev pub blankCore : Core
 blankCore = core (replicate registerCount 0) false false (replicate memorySize 0)
 
+-- there are as many registers and bytes as there should be
 abbrev pub fineCore : Core → Bool
 fineCore x = eqb (length (x .registers)) registerCount && eqb (length (x .memory)) memorySize
 
@@ -52,18 +57,22 @@ abbrev pub placeOf : Location → ℕ
 placeOf (location.Register d) = d
 placeOf (location.Memory a) = memoryPlace
 
+-- whether there is such a register; every 16-bit address is one of the memory
 abbrev pub validOf : Location → Bool
 validOf (location.Register d) = ltb d registerCount
 validOf (location.Memory a) = true
 
+-- a byte written to a location
 abbrev pub putOf : Location → ℕ → Core → Core
 putOf (location.Register d) n x = core (set (x .registers) d n) (x .carry) (x .zero) (x .memory)
 putOf (location.Memory a) n x = core (x .registers) (x .carry) (x .zero) (set (x .memory) a n)
 
+-- the byte at a location
 abbrev pub getOf : Location → Core → ℕ
 getOf (location.Register d) x = reg (x .registers) d
 getOf (location.Memory a) x = getD (x .memory) a 0
 
+-- the machine of some words: what a place holds is a list of numbers, since the whole memory is one place
 abbrev pub avr : List ℕ → Machine Core (List ℕ) Location
 avr ws =
     record {

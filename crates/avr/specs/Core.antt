@@ -12,9 +12,11 @@ pub record Core : Type 0 where
   pub zero : Bool
   pub memory : List ℕ
 
+-- a core of its four parts
 abbrev pub core : List ℕ → Bool → Bool → List ℕ → Core
 core rs c z bytes = record { registers = rs; carry = c; zero = z; memory = bytes }
 
+-- what a register holds
 abbrev pub reg : List ℕ → ℕ → ℕ
 reg rs d = getD rs d 0
 
@@ -22,5 +24,6 @@ reg rs d = getD rs d 0
 abbrev pub pairOf : List ℕ → ℕ → ℕ
 pairOf rs d = reg rs d + 256 * reg rs (d + 1)
 
+-- the registers, with a 16-bit number written to the pair at d
 abbrev pub withPair : List ℕ → ℕ → ℕ → List ℕ
 withPair rs d v = set (set rs d (v % 256)) (d + 1) (v / 256)

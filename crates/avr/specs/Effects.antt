@@ -31,6 +31,7 @@ compared x o = core (x .registers) (o .carry) (o .zero) (x .memory)
 abbrev pub storedPair : Core → ℕ → WordOutput → Core
 storedPair x d o = core (withPair (x .registers) d (o .value)) (o .carry) (o .zero) (x .memory)
 
+-- the value and flags of an operation on the register d and the byte b
 abbrev pub binaryResult : BinaryOp → ℕ → ℕ → Core → ByteOutput
 binaryResult op d b x = binaryOutput op (reg (x .registers) d) b (x .carry) (x .zero)
 
@@ -63,13 +64,16 @@ pointerPair mode.YDec = 28
 pointerPair mode.ZInc = 30
 pointerPair mode.ZDec = 30
 
+-- the pointer that a displaced access starts from
 abbrev pub basePair : Base → ℕ
 basePair base.Y = 28
 basePair base.Z = 30
 
+-- a pointer, increased by 1 on 16 bits
 abbrev pub oneUp : ℕ → ℕ
 oneUp p = (p + 1) % 65536
 
+-- a pointer, decreased by 1 on 16 bits
 abbrev pub oneDown : ℕ → ℕ
 oneDown p = (p + 65535) % 65536
 
@@ -93,10 +97,11 @@ writeBack mode.YDec p rs = withPair rs 28 (oneDown p)
 writeBack mode.ZInc p rs = withPair rs 30 (oneUp p)
 writeBack mode.ZDec p rs = withPair rs 30 (oneDown p)
 
--- a load and a store by a pointer that holds p
+-- a load by a pointer that holds p: first the register is written, then the pointer is written back
 abbrev pub loadEffect : Mode → ℕ → ℕ → Core → Core
 loadEffect m d p x = core (writeBack m p (set (x .registers) d (getD (x .memory) (usedAt m p) 0))) (x .carry) (x .zero) (x .memory)
 
+-- a store by a pointer that holds p; the byte stored is the register's old one
 abbrev pub storeEffect : Mode → ℕ → ℕ → Core → Core
 storeEffect m r p x = core (writeBack m p (x .registers)) (x .carry) (x .zero) (set (x .memory) (usedAt m p) (reg (x .registers) r))
 
@@ -104,6 +109,7 @@ storeEffect m r p x = core (writeBack m p (x .registers)) (x .carry) (x .zero) (
 abbrev pub displacedAt : Base → ℕ → Core → ℕ
 displacedAt b q x = (pairOf (x .registers) (basePair b) + q) % 65536
 
+-- what an instruction makes of registers, flags and memory
 abbrev pub effectOf : Instruction → Core → Core
 effectOf (Binary op d r) x = binaryEffect op d (reg (x .registers) r) x
 effectOf (Immediate op d k) x = binaryEffect (counterpart op) d k x
@@ -121,6 +127,7 @@ effectOf Ret x = x
 effectOf Clc x = core (x .registers) false (x .zero) (x .memory)
 effectOf Nop x = x
 
+-- what a flag holds
 abbrev pub flagOf : Flag → Core → Bool
 flagOf flag.Carry x = x .carry
 flagOf flag.Zero x = x .zero
@@ -131,6 +138,7 @@ agrees true b = b
 agrees false true = false
 agrees false false = true
 
+-- of the operations on two registers only cpse may go aside
 abbrev pub binaryDiverts : BinaryOp → ℕ → ℕ → Core → Bool
 binaryDiverts binary.Cpc d r x = false
 binaryDiverts binary.Sbc d r x = false

@@ -16,6 +16,7 @@ use Rattle.avr.specs.Chip.{fineCore}
 abbrev pub Same : Core → Core → List ℕ → Type 0
 Same x y qs = Each (λ q. holdsOf x q ≡ holdsOf y q) qs
 
+-- what the table says of an instruction is true of what the instruction does
 pub record Exact (i : Instruction) : Type 0 where
   -- what a written place holds afterwards is a function of the places that it comes from
   pub local : (x y : Core) → fineCore x ≡ true → fineCore y ≡ true → (p : ℕ) (qs : List ℕ) → comesFrom i p ≡ Some qs → Same x y qs → holdsOf (effectOf i x) p ≡ holdsOf (effectOf i y) p

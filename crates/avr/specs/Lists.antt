@@ -4,6 +4,7 @@ use Prim.Native.Nat.{ℕ}
 use Rattle.avr.specs.declared.sources.Sources.{Sources}
 use Rattle.avr.specs.declared.sources.Sources.the-variants.{Nothing, One, Two, Three, Four}
 
+-- the places, in order
 abbrev pub listOf : Sources → List ℕ
 listOf Nothing = []
 listOf (One p) = p ∷ []

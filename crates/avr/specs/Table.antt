@@ -24,9 +24,11 @@ use Rattle.avr.specs.Effects.{pointerPair, basePair}
 abbrev pub carryPlace : ℕ
 carryPlace = 32
 
+-- the place of Z
 abbrev pub zeroPlace : ℕ
 zeroPlace = 33
 
+-- the place of the memory
 abbrev pub memoryPlace : ℕ
 memoryPlace = 34
 
@@ -43,6 +45,7 @@ pub record Row : Type 0 where
   pub place : ℕ
   pub sources : List ℕ
 
+-- a row of its two parts
 abbrev pub row : ℕ → List ℕ → Row
 row p qs = record { place = p; sources = qs }
 
@@ -54,11 +57,12 @@ withFlags d qs = row d qs ∷ (row carryPlace qs ∷ (row zeroPlace qs ∷ []))
 abbrev pub withZero : ℕ → List ℕ → List Row
 withZero d qs = row d qs ∷ (row zeroPlace qs ∷ [])
 
+-- the flags alone, both from the same places
 abbrev pub flagsOnly : List ℕ → List Row
 flagsOnly qs = row carryPlace qs ∷ (row zeroPlace qs ∷ [])
 
--- An operation on the register d and on bs, which is the other register or nothing. A word that uses C has it for every place
--- that it writes; the Z of before counts for nothing but the new Z of sbc, sbci and cpc.
+-- An operation on the register d and on bs, which is the other register or nothing. Where C is used, every place that is
+-- written comes from it too; the old Z is a source of Z alone, in sbc, sbci and cpc.
 abbrev pub binaryRows : BinaryOp → ℕ → List ℕ → List Row
 binaryRows binary.Cpc d bs = row carryPlace (d ∷ (carryPlace ∷ bs)) ∷ (row zeroPlace (d ∷ (carryPlace ∷ (zeroPlace ∷ bs))) ∷ [])
 binaryRows binary.Sbc d bs = row d (d ∷ (carryPlace ∷ bs)) ∷ (row carryPlace (d ∷ (carryPlace ∷ bs)) ∷ (row zeroPlace (d ∷ (carryPlace ∷ (zeroPlace ∷ bs))) ∷ []))
@@ -73,6 +77,7 @@ binaryRows binary.Or d bs = withZero d (d ∷ bs)
 binaryRows binary.Mov d bs = row d bs ∷ []
 binaryRows binary.Mul d bs = row 0 (d ∷ bs) ∷ (row 1 (d ∷ bs) ∷ flagsOnly (d ∷ bs))
 
+-- an operation on the register d; ror uses C
 abbrev pub unaryRows : UnaryOp → ℕ → List Row
 unaryRows unary.Neg d = withFlags d (d ∷ [])
 unaryRows unary.Inc d = withZero d (d ∷ [])
@@ -94,10 +99,11 @@ backRows mode.YDec = pairRows 28
 backRows mode.ZInc = pairRows 30
 backRows mode.ZDec = pairRows 30
 
--- what is loaded comes from the memory and both bytes of the pointer; what the memory becomes comes from the register besides
+-- what is loaded comes from the memory and both bytes of the pointer
 abbrev pub loadRow : ℕ → ℕ → Row
 loadRow d pointer = row d (memoryPlace ∷ (pointer ∷ ((pointer + 1) ∷ [])))
 
+-- a store joins a byte to the memory, so that the old memory is a source too
 abbrev pub storeRow : ℕ → ℕ → Row
 storeRow r pointer = row memoryPlace (memoryPlace ∷ (pointer ∷ ((pointer + 1) ∷ (r ∷ []))))
 
@@ -124,13 +130,16 @@ abbrev pub lookup : ℕ → List Row → Option (List ℕ)
 lookup p [] = None
 lookup p (r ∷ rs) = cond (eqb p (r .place)) (Some (r .sources)) (lookup p rs)
 
+-- what a place comes from in an instruction; none where it is not written
 abbrev pub comesFrom : Instruction → ℕ → Option (List ℕ)
 comesFrom i p = lookup p (rowsOf i)
 
+-- the place of a flag
 abbrev pub flagPlace : Flag → ℕ
 flagPlace flag.Carry = carryPlace
 flagPlace flag.Zero = zeroPlace
 
+-- of the operations on two registers only cpse asks something
 abbrev pub binaryDeciders : BinaryOp → ℕ → ℕ → List ℕ
 binaryDeciders binary.Cpc d r = []
 binaryDeciders binary.Sbc d r = []

@@ -1,4 +1,4 @@
-//! Lists of at most four places.
+//! Short lists of places, as the rows of the table have them.
 
 /// The places that something comes from.
 #[derive(Clone, Copy)]

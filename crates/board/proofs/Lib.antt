@@ -1,3 +1,4 @@
 pub mod Returns
+pub mod Shown
 pub mod Steps
 pub mod Zeros

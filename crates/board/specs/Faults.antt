@@ -18,19 +18,22 @@ use Rattle.board.specs.declared.fault.CallFault.the-variants as call
 abbrev pub makingOf : List ℕ → List ℕ → Verdict
 makingOf ws bytes = andThen (legalOf ws) (rule (eqb (length bytes) memorySize) 11 [])
 
+-- the refusal that a fault of making stands for; a fault of the words is theirs
 abbrev pub makingRefusal : MakingFault → Refusal
 makingRefusal (Words f) = wordRefusal f
 makingRefusal Memory = refusal 11 []
 
+-- the refusal that a fault of a call stands for
 abbrev pub callRefusal : CallFault → Refusal
 callRefusal call.Phase = wrongPhase
 callRefusal call.Register = noPlace
 
--- what a put and a read answer
+-- what a put answers: that it is done, or a refusal
 abbrev pub putAnswer : Result (Unit {0}) CallFault → Answer
 putAnswer (Ok x) = done
 putAnswer (Err f) = refused (callRefusal f)
 
+-- what a read answers: the byte, or a refusal
 abbrev pub readAnswer : Result ℕ CallFault → Answer
 readAnswer (Ok n) = byte n
 readAnswer (Err f) = refused (callRefusal f)

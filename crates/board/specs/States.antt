@@ -18,15 +18,19 @@ abbrev pub newest : ℕ → List ℕ → List ℕ
 newest zero rs = []
 newest (suc d) rs = getD rs d 0 ∷ newest d rs
 
+-- the returns that a board holds
 abbrev pub heldOf : Board → List ℕ
 heldOf b = newest (b .depth) (b .returns)
 
+-- where a board stands
 abbrev pub stateOf : Board → State Core
 stateOf b = state (b .at) (heldOf b) (b .count) (coreOf (b .chip))
 
+-- what a board stands for: where it stands, and its phase
 abbrev pub boardOf : Board → calls.Board Core
 boardOf b = calls.board (stateOf b) (b .phase)
 
+-- the words of a board's listing
 abbrev pub wordsOf : Board → List ℕ
 wordsOf b = now (b .listing .words)
 

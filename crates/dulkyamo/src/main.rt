@@ -1,7 +1,12 @@
 //! Carries out routine files and prints what it carried out, an answer a line.
 //!
 //! What is printed and read is tested by the run in the gate, and not proved: each function is proved to be safe and to end.
+mod answers;
+mod couples;
+mod judging;
+mod naming;
 mod showing;
+mod working;
 
 ghost use mathlib.Core.Path.{_≡_};
 ghost use Rattle.verdicts.specs.Verdict.{refused};
@@ -14,6 +19,7 @@ use notation::Assembly;
 use notation::AssemblyDisplay;
 use routine::FaultDisplay;
 use routine::FileFault;
+use routine::Routine;
 use std::env;
 use std::fs;
 use std::io;
@@ -25,7 +31,16 @@ use words::listing::Listing;
 /// What `--help` prints.
 const HELP: &str = "usage: dulkyamo [FILE]..
 Carries out each routine FILE in turn, or standard input where none is named, and prints what it carried out.
-A FILE holds statements, one a line; `words N N ..` gives words of the routine, and `;` begins a comment.
+A FILE holds statements, one a line; `;` begins a comment. Words come first, then order and rows, then judge and the calls:
+  words N N ..                   words of the routine
+  order chain N | compartments N | table N B B .. | pair ORDER ORDER
+                                 the order of secrecy levels
+  row ADDRESS NAME=VALUE ..      levels at a word, by name (r0 to r31, c, z, memory, region, join, remaining, function)
+  row finish NAME=VALUE ..       levels at the end
+  rows N N ..                    all rows as plain numbers, 39 to a row
+  judge                          whether words and rows keep all rules
+  clear, put PLACE BYTE [BYTE], run LIMIT, read PLACE
+                                 calls on two boards, whose answers stand side by side; PLACE is rN or an address
 Status 0: each file was carried out. Status 1: some file could not be read or is malformed; standard error says where.";
 
 /// The name of standard input.
@@ -89,9 +104,8 @@ fn unreadable(rt: &LibcRuntime, name: &str, error: io::Error) -> io::Result<bool
 /// Carries out a file, or says what is wrong with it and where.
 fn carry_out(rt: &LibcRuntime, name: &str, file: &[u8]) -> io::Result<bool> {
     match routine::read(rt.alloc(), file) {
-        Ok(words) => {
-            println!(rt, "routine {name}")?;
-            print_words(rt, words.as_slice())?;
+        Ok(routine) => {
+            print_routine(rt, name, &routine)?;
             Ok(true)
         }
         Err(FileFault { line, fault }) => {
@@ -99,6 +113,17 @@ fn carry_out(rt: &LibcRuntime, name: &str, file: &[u8]) -> io::Result<bool> {
             Ok(false)
         }
     }
+}
+
+/// Prints what is said of a routine, and works its steps.
+fn print_routine(rt: &LibcRuntime, name: &str, routine: &Routine) -> io::Result<()> {
+    println!(rt, "routine {name}")?;
+    print_words(rt, routine.words.as_slice())?;
+    let order = match &routine.order {
+        Some(text) => naming::print_order(rt, text)?,
+        None => None,
+    };
+    working::work(rt, routine, &order)
 }
 
 /// Prints the words as a listing, or why they are none.

@@ -1,4 +1,3 @@
 pub mod Checks
 pub mod Callers
 pub mod Placed
-pub mod Judged

@@ -1,8 +1,8 @@
 -- No instruction writes anything but the places that rows give a level to.
 use mathlib.Core.Path.{_≡_, refl}
 use mathlib.Core.List.{List, [], _∷_}
-use mathlib.Core.Bool.{Bool, true, false}
-use Prim.Native.Nat.{ℕ, _+_, _<_, _≤_}
+use mathlib.Core.Bool.{false}
+use Prim.Native.Nat.{ℕ, _<_, _≤_}
 use native.Mathlib.Omega.{arith}
 use Rattle.std.specs.declared.option.Option.{Option}
 use Rattle.std.specs.declared.option.Option.the-variants.{Some, None}
@@ -16,7 +16,7 @@ use Rattle.words.specs.declared.instruction.Mode.the-variants as mode
 use Rattle.words.specs.declared.instruction.Instruction.{Instruction}
 use Rattle.words.specs.declared.instruction.Instruction.the-variants.{Binary, Immediate, Wide, Movw, Unary, Load, Store, LoadDisplaced, StoreDisplaced, Rjmp, Rcall, Branch, Ret, Clc, Nop}
 use Rattle.words.specs.Operands.{Operands}
-use Rattle.avr.specs.Table.{binaryRows, unaryRows, backRows, rowsOf, lookup, comesFrom}
+use Rattle.avr.specs.Table.{binaryRows, unaryRows, backRows, rowsOf, comesFrom}
 use Rattle.avr.specs.Chip.{instructionOf, avr}
 use Rattle.avr.proofs.Rows.{EachRow, found}
 use Rattle.avr.proofs.Sounds.{named}

@@ -63,8 +63,11 @@ impl FlowFault {
 /// What is wrong with a routine: with its words, with its rows, or with the flow of levels.
 #[derive(Clone, Copy)]
 pub enum JudgeFault {
+    /// The words are no listing.
     Words(WordFault),
+    /// The rows are no rows of these words, on their own.
     Rows(RowFault),
+    /// The words do not keep to the rows.
     Flow(FlowFault),
 }
 

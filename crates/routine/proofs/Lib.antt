@@ -1,2 +1,4 @@
 pub mod Gathering
+pub mod Bytes
+pub mod Turns
 pub mod Lawful

@@ -1,6 +1,12 @@
 pub mod Keywords
 pub mod Gathered
+pub mod Operands
+pub mod Orders
+pub mod Making
+pub mod Steps
+pub mod Rows
 pub mod Statements
+pub mod Routines
 pub mod Files
 pub mod Answers
 pub mod Laws

@@ -1,9 +1,15 @@
-//! The statements of a routine file, one a line, carried out in order.
+//! The statements of a routine file, one a line, and the routine that they make.
 mod faults;
 mod files;
+mod forms;
 mod keywords;
 mod laws;
+mod making;
+mod operands;
+mod routines;
+mod rows;
 mod statements;
+mod steps;
 
 pub use faults::Fault;
 pub use faults::FaultDisplay;
@@ -11,6 +17,21 @@ pub use faults::FileFault;
 pub use faults::Malformed;
 pub use faults::MalformedDisplay;
 pub use files::read;
+pub use forms::OrderText;
+pub use forms::SimpleText;
+pub use forms::read_order;
 pub use keywords::Keyword;
+pub use keywords::Kind;
 pub use laws::reading_stands;
-pub use statements::read_words;
+pub use making::Made;
+pub use operands::read_words;
+pub use routines::Routine;
+pub use routines::RowForm;
+pub use rows::Column;
+pub use rows::Entry;
+pub use rows::ROW_WIDTH;
+pub use rows::RowName;
+pub use rows::read_row;
+pub use statements::Statement;
+pub use statements::read_statement;
+pub use steps::Step;

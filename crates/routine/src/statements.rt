@@ -1,79 +1,75 @@
 //! The statement of one line.
-ghost use mathlib.Core.Path.{_≡_};
-ghost use mathlib.Core.List.{[], _∷_};
-ghost use lib.Dec.{eqb};
-ghost use lib.ListN.{length, take};
-ghost use Rattle.std.specs.Results.{mapped};
-ghost use Rattle.std.specs.Of.Vec.{vec-items};
+ghost use Rattle.std.specs.Options as options;
 ghost use Rattle.text.specs.Lines.{lineLeft};
 ghost use Rattle.text.specs.Tokens.{tokensOf};
-ghost use Rattle.routine.specs.Gathered.{gathered};
-ghost use Rattle.routine.specs.Statements.{wordOf, wordsOf, lineOf};
-ghost use Rattle.routine.specs.Answers.{Pushes, Extends};
+ghost use Rattle.std.specs.declared.option.Option.the-variants.{Some};
+ghost use Rattle.routine.specs.Statements.{statedOf, statementOf, lineOf};
+ghost use Rattle.routine.specs.Answers.{Answers};
 use crate::faults::Fault;
 use crate::faults::FaultFromMalformed;
-use crate::faults::FaultFromRefused;
 use crate::faults::Malformed;
+use crate::forms::OrderText;
+use crate::forms::read_order;
 use crate::keywords::Keyword;
+use crate::operands::end;
+use crate::operands::read_words;
+use crate::rows::Entry;
+use crate::rows::RowName;
+use crate::rows::read_row;
+use crate::steps::Step;
+use crate::steps::read_put;
+use crate::steps::read_read;
+use crate::steps::read_run;
+use std::alloc::Global;
 use text::Line;
-use text::NumberFault;
-use text::number;
 
-/// The largest word.
-const MOST: u32 = 0xFFFF;
+/// What a line says.
+#[derive(Drop)]
+pub enum Statement {
+    /// More words of the routine.
+    Words(Vec<u16>),
+    /// The order of levels.
+    Order(OrderText),
+    /// More numbers of the rows.
+    Rows(Vec<u16>),
+    /// Values of one row.
+    Row { name: RowName, entries: Vec<Entry> },
+    /// One step more.
+    Step(Step),
+}
 
-/// Carries out the statement of a line, if the line has one.
-pub(crate) fn read_statement(mut line: Line<'_>, words: &mut Vec<u16>) -> Result<(), Fault>
-    ensures { λ r. ⌜ Extends r (vec-items (now (words .entry))) (vec-items (now (words .exit))) (lineOf (tokensOf (lineLeft (line .entry)))) ⌝ }
+/// The statement of a line, if the line has one.
+pub fn read_statement(heap: Global, mut line: Line<'_>) -> Result<Option<Statement>, Fault>
+    ensures { λ r. ⌜ Answers (options.mapped statedOf) r (lineOf (tokensOf (lineLeft (line .entry)))) ⌝ }
 {
     let Some(token) = line.token() else {
-        return Ok(());
+        return Ok(None);
     };
-    match Keyword::from_token(token) {
-        Some(Keyword::Words) => read_words(line, words),
-        None => Err(Fault::Malformed(Malformed::UnknownStatement)),
-    }
+    let Some(keyword) = Keyword::from_token(token) else {
+        return Err(Fault::Malformed(Malformed::UnknownStatement));
+    };
+    let statement = read_operands(heap, keyword, line)?;
+    Ok(Some(statement))
 }
 
-/// Appends the numbers of a line, which has one at least, to the words. Where it fails, the words are as they were.
-pub fn read_words(line: Line<'_>, words: &mut Vec<u16>) -> Result<(), Fault>
-    ensures { λ r. ⌜ Extends r (vec-items (now (words .entry))) (vec-items (now (words .exit))) (wordsOf (tokensOf (lineLeft (line .entry)))) ⌝ }
+/// The statement of a keyword, by the tokens behind it.
+fn read_operands(heap: Global, keyword: Keyword, mut line: Line<'_>) -> Result<Statement, Fault>
+    ensures { λ r. ⌜ Answers statedOf r (statementOf (Some keyword) (tokensOf (lineLeft (line .entry)))) ⌝ }
 {
-    if is_empty(line) {
-        return Err(Fault::Malformed(Malformed::NoOperands));
-    }
-    let before = words.len();
-    let pushed = push_words(line, words);
-    if pushed.is_err() {
-        words.truncate(before);
-    }
-    pushed
-}
-
-/// Whether no token is left.
-fn is_empty(mut line: Line<'_>) -> bool
-    ensures { λ r. ⌜ r ≡ eqb (length (tokensOf (lineLeft (line .entry)))) 0 ⌝ }
-{
-    line.token().is_none()
-}
-
-/// Appends the numbers of a line to the words, as far as they go.
-fn push_words(mut line: Line<'_>, words: &mut Vec<u16>) -> Result<(), Fault>
-    ensures { λ r. ⌜ Pushes r (vec-items (now (words .entry))) (vec-items (now (words .exit))) (gathered wordOf (tokensOf (lineLeft (line .entry)))) ⌝ }
-{
-    while let Some(token) = line.token() {
-        words.push(word(token)?)?;
-    }
-    Ok(())
-}
-
-/// The word that a token writes.
-fn word(token: &[u8]) -> Result<u16, Malformed>
-    ensures { λ r. ⌜ mapped (λ w. w ∷ []) (λ m. m) r ≡ wordOf (now (token .entry)) ⌝ }
-{
-    match number(token, MOST) {
-        Ok(value) => Ok(value as u16),
-        Err(NumberFault::NoNumber) => Err(Malformed::NoNumber { most: MOST }),
-        Err(NumberFault::TooLarge) => Err(Malformed::TooLarge { most: MOST }),
-    }
+    let step = match keyword {
+        Keyword::Words => return Ok(Statement::Words(read_words(heap, line)?)),
+        Keyword::Order => return Ok(Statement::Order(read_order(heap, line)?)),
+        Keyword::Rows => return Ok(Statement::Rows(read_words(heap, line)?)),
+        Keyword::Row => {
+            let (name, entries) = read_row(heap, line)?;
+            return Ok(Statement::Row { name, entries });
+        }
+        Keyword::Judge => Step::Judge,
+        Keyword::Clear => Step::Clear,
+        Keyword::Put => read_put(&mut line)?,
+        Keyword::Run => read_run(&mut line)?,
+        Keyword::Read => read_read(&mut line)?,
+    };
+    end(line)?;
+    Ok(Statement::Step(step))
 }

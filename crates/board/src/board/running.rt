@@ -1,21 +1,26 @@
-//! Runs.
+//! Runs: steps up to a limit of cycles.
 ghost use mathlib.Core.Path.{_≡_};
-ghost use mathlib.Core.Bool.{false};
 ghost use Prim.Native.Nat.{_+_, _<_, _≤_};
+ghost use lib.ListN.{length};
+ghost use lib.Dec.{ltb};
 ghost use Rattle.std.specs.Options.{Cases};
-ghost use Rattle.words.specs.Operands.{Operands};
-ghost use Rattle.machine.specs.Run.{state, nextOf, returnsOf, overfull, step as stepOf, Runs};
+ghost use Rattle.machine.specs.Run.{landed, step as stepOf, Runs};
 ghost use Rattle.machine.specs.Calls.{ends, does, run as runCall, phaseOf};
 ghost use Rattle.avr.specs.Chip.{instructionOf, avr};
-ghost use Rattle.board.specs.Cells.{cellOf, kindIn};
+ghost use Rattle.board.specs.declared.cell.Leave.the-variants.{Jump, Call, Return};
+ghost use Rattle.board.specs.declared.cell.Way.the-variants.{On, Leave as Leaving};
 ghost use Rattle.board.specs.Cores.{coreOf};
+ghost use Rattle.board.specs.Works.{Fits};
+ghost use Rattle.board.specs.Cells.{Shows, stepIn};
 ghost use Rattle.board.specs.States.{stateOf, boardOf, heldOf, wordsOf, stepped, after, Lent};
 use crate::board::Board;
 use crate::cell::Cell;
+use crate::cell::Leave;
+use crate::cell::Way;
+use crate::work::Work;
 use machine::phase::Ending;
 use machine::phase::Phase;
 use machine::phase::Stop;
-use words::route::Route;
 
 /// The phase that an ending leaves a board in.
 fn left_in(ending: Ending) -> Phase
@@ -30,60 +35,114 @@ fn left_in(ending: Ending) -> Phase
 
 impl Board<'_, '_> {
     /// The cell of the word at which the board stands.
-    fn fetch(&self) -> Cell
-        ensures cell { λ r. ⌜ r ≡ cellOf (now (self .entry) .at) (instructionOf (wordsOf (now (self .entry))) (now (self .entry) .at)) ⌝ }
-        ensures operands { λ r. ⌜ Operands (r .instruction) ⌝ }
+    fn fetch(&self) -> &Cell
+        ensures { λ r. ⌜ Shows (now (self .entry) .at) (instructionOf (wordsOf (now (self .entry))) (now (self .entry) .at)) (now r) ⌝ }
     {
-        self.cells[self.at as usize]
+        &self.cells[self.at as usize]
     }
 
-    /// Whether a word would hold one return too many.
-    fn is_overfull(&self, cell: Cell) -> bool
-        ensures { λ r. ⌜ r ≡ overfull (kindIn cell) (heldOf (now (self .entry))) ⌝ }
+    /// Whether so many cycles more pass a limit.
+    fn passes(&self, limit: u32, cycles: u8) -> bool
+        ensures { λ r. ⌜ r ≡ ltb limit (now (self .entry) .count + cycles) ⌝ }
     {
-        match cell.route {
-            Route::Call(_) => self.depth >= 16,
-            _ => false,
-        }
+        u64::from(limit) < u64::from(self.count) + u64::from(cycles)
     }
 
-    /// The next address of a word; none where the routine ends.
-    fn next(&self, cell: Cell, aside: bool) -> Option<u32>
-        ensures { λ r. ⌜ r ≡ nextOf (kindIn cell) aside (heldOf (now (self .entry))) ⌝ }
+    /// Whether an address is in the listing.
+    fn holds(&self, at: u32) -> bool
+        ensures { λ r. ⌜ r ≡ ltb at (length (wordsOf (now (self .entry)))) ⌝ }
     {
-        match cell.route {
-            Route::To(to) => Some(to),
-            Route::Fork(on, target) => Some(if aside { target } else { on }),
-            Route::Call(to) => Some(to),
-            Route::Return => {
-                if self.depth == 0 {
-                    None
-                } else {
-                    Some(self.returns[self.depth - 1] as u32)
-                }
-            }
-        }
+        at < u32::from(self.listing.len())
     }
 
-    /// Holds the return of a call, and lets the newest go at a return.
-    fn keep_returns(&mut self, cell: Cell)
-        requires { ⌜ overfull (kindIn cell) (heldOf (now self)) ≡ false ⌝ }
-        ensures state { λ _. ⌜ stateOf (now (self .exit)) ≡ state (now (self .entry) .at) (returnsOf (kindIn cell) (now (self .entry) .at) (heldOf (now (self .entry)))) (now (self .entry) .count) (coreOf (now (self .entry) .chip)) ⌝ }
-        ensures phase { λ _. ⌜ now (self .exit) .phase ≡ now (self .entry) .phase ⌝ }
+    /// Goes to an address if it is in the listing.
+    fn land(&mut self, to: u32) -> Option<Ending>
+        ensures state { λ r. ⌜ stepped r (stateOf (now (self .exit))) ≡ landed (length (wordsOf (now (self .entry)))) (now (self .entry) .at) to (heldOf (now (self .entry))) (now (self .entry) .count) (coreOf (now (self .entry) .chip)) ⌝ }
         ensures same { λ _. ⌜ Lent (now (self .entry)) (now (self .exit)) ⌝ }
+        ensures count { λ _. ⌜ now (self .exit) .count ≡ now (self .entry) .count ⌝ }
     {
-        match cell.route {
-            Route::Call(_) => {
-                self.returns[self.depth] = self.at + 1;
-                self.depth += 1;
-            }
-            Route::Return => {
-                if self.depth > 0 {
-                    self.depth -= 1;
-                }
-            }
-            Route::To(_) | Route::Fork(_, _) => {}
+        if self.holds(to) {
+            self.at = to as u16;
+            None
+        } else {
+            Some(Ending::Stopped(Stop::Off, self.count))
         }
+    }
+
+    /// A step by a word that does its work and goes on.
+    fn go_on(&mut self, limit: u32, work: Work, cycles: u8) -> Option<Ending>
+        requires { ⌜ Fits work ⌝ ∗ ⌜ 0 < cycles ⌝ }
+        ensures state { λ r. ⌜ stepped r (stateOf (now (self .exit))) ≡ stepIn (length (wordsOf (now (self .entry)))) limit (On work) cycles cycles (stateOf (now (self .entry))) ⌝ }
+        ensures same { λ _. ⌜ Lent (now (self .entry)) (now (self .exit)) ⌝ }
+        ensures onward { λ r. ⌜ Cases r ((now (self .entry) .count < now (self .exit) .count) × (now (self .exit) .count ≤ limit)) (λ _. Unit {0}) ⌝ }
+    {
+        if self.passes(limit, cycles) {
+            return Some(Ending::Spent(limit));
+        }
+        let count = self.count + u32::from(cycles);
+        let next = u32::from(self.at) + 1;
+        self.chip.perform(work);
+        self.count = count;
+        self.land(next)
+    }
+
+    /// A step by a word that only goes to an address.
+    fn go_to(&mut self, limit: u32, to: u32, cycles: u8) -> Option<Ending>
+        requires { ⌜ 0 < cycles ⌝ }
+        ensures state { λ r. ⌜ stepped r (stateOf (now (self .exit))) ≡ stepIn (length (wordsOf (now (self .entry)))) limit (Leaving (Jump to)) cycles cycles (stateOf (now (self .entry))) ⌝ }
+        ensures same { λ _. ⌜ Lent (now (self .entry)) (now (self .exit)) ⌝ }
+        ensures onward { λ r. ⌜ Cases r ((now (self .entry) .count < now (self .exit) .count) × (now (self .exit) .count ≤ limit)) (λ _. Unit {0}) ⌝ }
+    {
+        if self.passes(limit, cycles) {
+            return Some(Ending::Spent(limit));
+        }
+        self.count += u32::from(cycles);
+        self.land(to)
+    }
+
+    /// Where a call from here returns to.
+    fn return_address(&self) -> u16
+        ensures { λ r. ⌜ r ≡ now (self .entry) .at + 1 ⌝ }
+    {
+        self.at + 1
+    }
+
+    /// A step by a word that calls.
+    fn call(&mut self, limit: u32, to: u32, cycles: u8) -> Option<Ending>
+        requires { ⌜ 0 < cycles ⌝ }
+        ensures state { λ r. ⌜ stepped r (stateOf (now (self .exit))) ≡ stepIn (length (wordsOf (now (self .entry)))) limit (Leaving (Call to)) cycles cycles (stateOf (now (self .entry))) ⌝ }
+        ensures same { λ _. ⌜ Lent (now (self .entry)) (now (self .exit)) ⌝ }
+        ensures onward { λ r. ⌜ Cases r ((now (self .entry) .count < now (self .exit) .count) × (now (self .exit) .count ≤ limit)) (λ _. Unit {0}) ⌝ }
+    {
+        if self.passes(limit, cycles) {
+            return Some(Ending::Spent(limit));
+        }
+        if self.depth >= 16 {
+            return Some(Ending::Stopped(Stop::Deep, self.count));
+        }
+        let address = self.return_address();
+        self.returns[self.depth] = address;
+        self.depth += 1;
+        self.count += u32::from(cycles);
+        self.land(to)
+    }
+
+    /// A step by a word that returns.
+    fn go_back(&mut self, limit: u32, cycles: u8) -> Option<Ending>
+        requires { ⌜ 0 < cycles ⌝ }
+        ensures state { λ r. ⌜ stepped r (stateOf (now (self .exit))) ≡ stepIn (length (wordsOf (now (self .entry)))) limit (Leaving Return) cycles cycles (stateOf (now (self .entry))) ⌝ }
+        ensures same { λ _. ⌜ Lent (now (self .entry)) (now (self .exit)) ⌝ }
+        ensures onward { λ r. ⌜ Cases r ((now (self .entry) .count < now (self .exit) .count) × (now (self .exit) .count ≤ limit)) (λ _. Unit {0}) ⌝ }
+    {
+        if self.passes(limit, cycles) {
+            return Some(Ending::Spent(limit));
+        }
+        self.count += u32::from(cycles);
+        if self.depth == 0 {
+            return Some(Ending::Ended(self.count));
+        }
+        self.depth -= 1;
+        self.land(u32::from(self.returns[self.depth]))
     }
 
     /// One step, up to a limit of cycles: an ending, or none where the run goes on.
@@ -93,28 +152,20 @@ impl Board<'_, '_> {
         ensures onward { λ r. ⌜ Cases r ((now (self .entry) .count < now (self .exit) .count) × (now (self .exit) .count ≤ limit)) (λ _. Unit {0}) ⌝ }
     {
         let cell = self.fetch();
-        let aside = self.chip.diverts(cell.instruction);
-        let cycles = cell.cycles(aside);
-        if limit < cycles || limit - cycles < self.count {
-            return Some(Ending::Spent(limit));
-        }
-        if self.is_overfull(cell) {
-            return Some(Ending::Stopped(Stop::Deep, self.count));
-        }
-        let next = self.next(cell, aside);
-        self.keep_returns(cell);
-        self.chip.execute(cell.instruction);
-        self.count += cycles;
-        match next {
-            None => Some(Ending::Ended(self.count)),
-            Some(to) => {
-                if to < u32::from(self.listing.len()) {
-                    self.at = to as u16;
-                    None
+        let on = cell.on;
+        let aside = cell.aside;
+        match cell.way {
+            Way::On(work) => self.go_on(limit, work, on),
+            Way::Fork(test, target) => {
+                if self.chip.passes(test) {
+                    self.go_to(limit, target, aside)
                 } else {
-                    Some(Ending::Stopped(Stop::Off, self.count))
+                    self.go_to(limit, u32::from(self.at) + 1, on)
                 }
             }
+            Way::Leave(Leave::Jump(to)) => self.go_to(limit, to, on),
+            Way::Leave(Leave::Call(to)) => self.call(limit, to, aside),
+            Way::Leave(Leave::Return) => self.go_back(limit, aside),
         }
     }
 

@@ -11,7 +11,7 @@ use avr::location::Location;
 
 impl<'m> Chip<'m> {
     /// The chip on lent bytes, all cleared.
-    pub fn new(memory: &'m mut [u8]) -> Self
+    pub(crate) fn new(memory: &'m mut [u8]) -> Self
         requires { ⌜ length (now memory) ≡ 65536 ⌝ }
         ensures state { λ r. ⌜ coreOf r ≡ blankCore ⌝ }
         ensures lent { λ r. ⌜ name (r .memory) ≡ name (memory .entry) ⌝ }
@@ -27,7 +27,7 @@ impl<'m> Chip<'m> {
     }
 
     /// Sets every register, flag and byte to 0.
-    pub fn clear(&mut self)
+    pub(crate) fn clear(&mut self)
         requires { ⌜ length (now (now self .memory)) ≡ 65536 ⌝ }
         ensures state { λ _. ⌜ coreOf (now (self .exit)) ≡ blankCore ⌝ }
         ensures lent { λ _. ⌜ name (now (self .exit) .memory) ≡ name (now (self .entry) .memory) ⌝ }
@@ -41,7 +41,7 @@ impl<'m> Chip<'m> {
     }
 
     /// Writes a byte to a place that there is.
-    pub fn put(&mut self, location: Location, byte: u8)
+    pub(crate) fn put(&mut self, location: Location, byte: u8)
         requires { ⌜ validOf location ≡ true ⌝ ∗ ⌜ length (now (now self .memory)) ≡ 65536 ⌝ }
         ensures state { λ _. ⌜ coreOf (now (self .exit)) ≡ putOf location byte (coreOf (now (self .entry))) ⌝ }
         ensures lent { λ _. ⌜ name (now (self .exit) .memory) ≡ name (now (self .entry) .memory) ⌝ }
@@ -53,7 +53,7 @@ impl<'m> Chip<'m> {
     }
 
     /// The byte at a place that there is.
-    pub fn get(&self, location: Location) -> u8
+    pub(crate) fn get(&self, location: Location) -> u8
         requires { ⌜ validOf location ≡ true ⌝ ∗ ⌜ length (now (now self .memory)) ≡ 65536 ⌝ }
         ensures { λ r. ⌜ r ≡ getOf location (coreOf (now (self .entry))) ⌝ }
     {
@@ -65,7 +65,7 @@ impl<'m> Chip<'m> {
 }
 
 /// Whether there is such a place.
-pub fn is_valid(location: Location) -> bool
+pub(crate) fn is_valid(location: Location) -> bool
     ensures { λ r. ⌜ r ≡ validOf location ⌝ }
 {
     match location {

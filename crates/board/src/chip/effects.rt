@@ -1,24 +1,31 @@
-//! What each instruction does.
+//! What each work does to the chip.
 ghost use mathlib.Core.Path.{_≡_};
 ghost use Prim.Native.Nat.{_+_, _<_, _≤_};
 ghost use lib.ListN.{length};
 ghost use denote.Ref.{name};
-ghost use Rattle.words.specs.Operands.{Operands};
-ghost use Rattle.words.specs.declared.instruction.Instruction.the-variants.{Load, Store};
-ghost use Rattle.alu.specs.Arithmetic.{wideOutput};
-ghost use Rattle.avr.specs.Core.{core, reg, pairOf, withPair};
-ghost use Rattle.avr.specs.Effects.{stored, compared, storedPair, binaryEffect, movwEffect, usedAt, writeBack, loadEffect, storeEffect, pointerPair, basePair, displacedAt, effectOf, flagOf, divertsOf};
+ghost use Rattle.alu.specs.Arithmetic.{logicOf};
+ghost use Rattle.avr.specs.Core.{core, pairOf, withPair};
+ghost use Rattle.avr.specs.Effects.{stored, compared, storedPair, movwEffect};
+ghost use Rattle.board.specs.declared.work.Work.the-variants.{Access as AccessWork};
 ghost use Rattle.board.specs.Cores.{coreOf};
+ghost use Rattle.board.specs.Works.{OperandFits, ByteFits, PairFits, Fits, operandOf, joinedEffect, loneEffect, byteEffect, transferred, pairEffect, workEffect};
+ghost use Rattle.board.specs.Cells.{TestFits, testOf};
+use crate::cell::Test;
 use crate::chip::Chip;
+use crate::work::Access;
+use crate::work::ByteWork;
+use crate::work::Joining;
+use crate::work::Logic;
+use crate::work::Lone;
+use crate::work::Operand;
+use crate::work::PairWork;
+use crate::work::Quiet;
+use crate::work::Reach;
+use crate::work::Step;
+use crate::work::Work;
 use alu::arithmetic;
 use alu::output::ByteOutput;
 use alu::output::WordOutput;
-use avr::table;
-use words::instruction::Base;
-use words::instruction::BinaryOp;
-use words::instruction::Flag;
-use words::instruction::Instruction;
-use words::instruction::Mode;
 
 impl Chip<'_> {
     /// The pair at d.
@@ -50,6 +57,16 @@ impl Chip<'_> {
         self.zero = output.zero;
     }
 
+    /// Keeps a result in the register d and sets the zero flag by it; the carry stays.
+    fn keep(&mut self, d: u8, value: u8)
+        requires { ⌜ d < 32 ⌝ }
+        ensures state { λ _. ⌜ coreOf (now (self .exit)) ≡ stored (coreOf (now (self .entry))) d (logicOf value (now (self .entry) .carry)) ⌝ }
+        ensures lent { λ _. ⌜ name (now (self .exit) .memory) ≡ name (now (self .entry) .memory) ⌝ }
+    {
+        self.registers[d as usize] = value;
+        self.zero = value == 0;
+    }
+
     /// Keeps the flags of a result.
     fn compare(&mut self, output: ByteOutput)
         ensures state { λ _. ⌜ coreOf (now (self .exit)) ≡ compared (coreOf (now (self .entry))) output ⌝ }
@@ -70,24 +87,75 @@ impl Chip<'_> {
         self.zero = output.zero;
     }
 
+    /// The byte that an operand names.
+    fn operand(&self, operand: Operand) -> u8
+        requires { ⌜ OperandFits operand ⌝ }
+        ensures { λ r. ⌜ r ≡ operandOf operand (now (self .entry) .registers) ⌝ }
+    {
+        match operand {
+            Operand::Register(r) => self.registers[r as usize],
+            Operand::Constant(k) => k,
+        }
+    }
+
     /// An operation on the register d and the byte b.
-    fn binary(&mut self, op: BinaryOp, d: u8, b: u8)
+    fn join(&mut self, joining: Joining, d: u8, b: u8)
         requires { ⌜ d < 32 ⌝ }
-        ensures state { λ _. ⌜ coreOf (now (self .exit)) ≡ binaryEffect op d b (coreOf (now (self .entry))) ⌝ }
+        ensures state { λ _. ⌜ coreOf (now (self .exit)) ≡ joinedEffect joining d b (coreOf (now (self .entry))) ⌝ }
         ensures lent { λ _. ⌜ name (now (self .exit) .memory) ≡ name (now (self .entry) .memory) ⌝ }
     {
         let a = self.registers[d as usize];
-        match op {
-            BinaryOp::Mul => self.store_pair(0, arithmetic::product(a, b)),
-            BinaryOp::Cpse => {}
-            BinaryOp::Cp | BinaryOp::Cpc => self.compare(arithmetic::binary(
-                op,
-                a,
-                b,
-                self.carry,
-                self.zero,
-            )),
-            _ => self.store(d, arithmetic::binary(op, a, b, self.carry, self.zero)),
+        match joining {
+            Joining::Sum { with_carry } => self.store(
+                d,
+                arithmetic::sum(a, b, with_carry & self.carry),
+            ),
+            Joining::Difference { with_carry, kept } => {
+                let output = arithmetic::difference(
+                    a,
+                    b,
+                    with_carry & self.carry,
+                    !with_carry | self.zero,
+                );
+                if kept {
+                    self.store(d, output);
+                } else {
+                    self.compare(output);
+                }
+            }
+            Joining::Logic(Logic::And) => self.keep(d, a & b),
+            Joining::Logic(Logic::Eor) => self.keep(d, a ^ b),
+            Joining::Logic(Logic::Or) => self.keep(d, a | b),
+        }
+    }
+
+    /// An operation on the register d alone.
+    fn alone(&mut self, lone: Lone, d: u8)
+        requires { ⌜ d < 32 ⌝ }
+        ensures state { λ _. ⌜ coreOf (now (self .exit)) ≡ loneEffect lone d (coreOf (now (self .entry))) ⌝ }
+        ensures lent { λ _. ⌜ name (now (self .exit) .memory) ≡ name (now (self .entry) .memory) ⌝ }
+    {
+        let a = self.registers[d as usize];
+        match lone {
+            Lone::Count(n) => self.keep(d, a.wrapping_add(n)),
+            Lone::Shift { through } => {
+                self.keep(d, 128 * u8::from(through & self.carry) + a / 2);
+                self.carry = a % 2 == 1;
+            }
+            Lone::Negate => self.store(d, arithmetic::difference(0, a, false, true)),
+        }
+    }
+
+    /// What is done to the register d.
+    fn byte(&mut self, work: ByteWork, d: u8)
+        requires { ⌜ d < 32 ⌝ ∗ ⌜ ByteFits work ⌝ }
+        ensures state { λ _. ⌜ coreOf (now (self .exit)) ≡ byteEffect work d (coreOf (now (self .entry))) ⌝ }
+        ensures lent { λ _. ⌜ name (now (self .exit) .memory) ≡ name (now (self .entry) .memory) ⌝ }
+    {
+        match work {
+            ByteWork::Joined(joining, operand) => self.join(joining, d, self.operand(operand)),
+            ByteWork::Lone(lone) => self.alone(lone, d),
+            ByteWork::Copied(operand) => self.registers[d as usize] = self.operand(operand),
         }
     }
 
@@ -103,114 +171,89 @@ impl Chip<'_> {
         self.registers[d as usize + 1] = high;
     }
 
-    /// Writes a mode's pointer back, where it held `pointer`.
-    fn write_back(&mut self, mode: Mode, pointer: u16)
-        ensures state { λ _. ⌜ coreOf (now (self .exit)) ≡ core (writeBack mode pointer (now (self .entry) .registers)) (now (self .entry) .carry) (now (self .entry) .zero) (now (now (self .entry) .memory)) ⌝ }
+    /// Stores the register at an address, or loads it from there.
+    fn transfer(&mut self, store: bool, register: u8, address: u16)
+        requires { ⌜ register < 32 ⌝ ∗ ⌜ length (now (now self .memory)) ≡ 65536 ⌝ }
+        ensures state { λ _. ⌜ coreOf (now (self .exit)) ≡ transferred store register address (coreOf (now (self .entry))) ⌝ }
         ensures lent { λ _. ⌜ name (now (self .exit) .memory) ≡ name (now (self .entry) .memory) ⌝ }
     {
-        match mode {
-            Mode::X => {}
-            Mode::XInc => self.set_pair(26, pointer.wrapping_add(1)),
-            Mode::XDec => self.set_pair(26, pointer.wrapping_sub(1)),
-            Mode::YInc => self.set_pair(28, pointer.wrapping_add(1)),
-            Mode::YDec => self.set_pair(28, pointer.wrapping_sub(1)),
-            Mode::ZInc => self.set_pair(30, pointer.wrapping_add(1)),
-            Mode::ZDec => self.set_pair(30, pointer.wrapping_sub(1)),
+        if store {
+            self.memory[address as usize] = self.registers[register as usize];
+        } else {
+            self.registers[register as usize] = self.memory[address as usize];
         }
     }
 
-    /// Loads the register d by a pointer.
-    fn load(&mut self, mode: Mode, d: u8)
-        requires { ⌜ d < 32 ⌝ ∗ ⌜ length (now (now self .memory)) ≡ 65536 ⌝ }
-        ensures state { λ _. ⌜ coreOf (now (self .exit)) ≡ effectOf (Load mode d) (coreOf (now (self .entry))) ⌝ }
+    /// A load or a store.
+    fn access(&mut self, access: Access)
+        requires { ⌜ access .register < 32 ⌝ ∗ ⌜ access .pointer + 1 < 32 ⌝ ∗ ⌜ length (now (now self .memory)) ≡ 65536 ⌝ }
+        ensures state { λ _. ⌜ coreOf (now (self .exit)) ≡ workEffect (AccessWork access) (coreOf (now (self .entry))) ⌝ }
         ensures lent { λ _. ⌜ name (now (self .exit) .memory) ≡ name (now (self .entry) .memory) ⌝ }
     {
-        let pointer = self.pair(table::pointer(mode));
-        self.registers[d as usize] = self.memory[used_at(mode, pointer) as usize];
-        self.write_back(mode, pointer);
+        let pointer = u16::from(access.pointer);
+        let held = self.pair(pointer);
+        match access.reach {
+            Reach::Plain => self.transfer(access.store, access.register, held),
+            Reach::Displaced(q) => self.transfer(
+                access.store,
+                access.register,
+                held.wrapping_add(u16::from(q)),
+            ),
+            Reach::Stepped(Step::Up) => {
+                self.transfer(access.store, access.register, held);
+                self.set_pair(pointer, held.wrapping_add(1));
+            }
+            Reach::Stepped(Step::Down) => {
+                let down = held.wrapping_sub(1);
+                self.transfer(access.store, access.register, down);
+                self.set_pair(pointer, down);
+            }
+        }
     }
 
-    /// Stores the register r by a pointer.
-    fn store_by(&mut self, mode: Mode, r: u8)
-        requires { ⌜ r < 32 ⌝ ∗ ⌜ length (now (now self .memory)) ≡ 65536 ⌝ }
-        ensures state { λ _. ⌜ coreOf (now (self .exit)) ≡ effectOf (Store mode r) (coreOf (now (self .entry))) ⌝ }
+    /// What works on pairs, and the few words that are left.
+    fn pairs(&mut self, work: PairWork)
+        requires { ⌜ PairFits work ⌝ }
+        ensures state { λ _. ⌜ coreOf (now (self .exit)) ≡ pairEffect work (coreOf (now (self .entry))) ⌝ }
         ensures lent { λ _. ⌜ name (now (self .exit) .memory) ≡ name (now (self .entry) .memory) ⌝ }
     {
-        let pointer = self.pair(table::pointer(mode));
-        self.memory[used_at(mode, pointer) as usize] = self.registers[r as usize];
-        self.write_back(mode, pointer);
-    }
-
-    /// The address of a displaced access.
-    fn displaced(&self, base: Base, q: u8) -> u16
-        ensures { λ r. ⌜ r ≡ displacedAt base q (coreOf (now (self .entry))) ⌝ }
-    {
-        self.pair(table::start(base)).wrapping_add(u16::from(q))
-    }
-
-    /// Carries an instruction out, as far as registers, flags and memory go.
-    pub fn execute(&mut self, instruction: Instruction)
-        requires { ⌜ Operands instruction ⌝ ∗ ⌜ length (now (now self .memory)) ≡ 65536 ⌝ }
-        ensures state { λ _. ⌜ coreOf (now (self .exit)) ≡ effectOf instruction (coreOf (now (self .entry))) ⌝ }
-        ensures lent { λ _. ⌜ name (now (self .exit) .memory) ≡ name (now (self .entry) .memory) ⌝ }
-    {
-        match instruction {
-            Instruction::Binary { op, d, r } => self.binary(op, d, self.registers[r as usize]),
-            Instruction::Immediate { op, d, k } => self.binary(arithmetic::counterpart(op), d, k),
-            Instruction::Wide { op, d, k } => self.store_pair(
+        match work {
+            PairWork::Wide { op, d, k } => self.store_pair(
                 u16::from(d),
                 arithmetic::wide(op, self.pair(u16::from(d)), k),
             ),
-            Instruction::Movw { d, r } => self.copy_pair(d, r),
-            Instruction::Unary { op, d } => self.store(
-                d,
-                arithmetic::unary(op, self.registers[d as usize], self.carry),
+            PairWork::Mul { d, r } => self.store_pair(
+                0,
+                arithmetic::product(self.registers[d as usize], self.registers[r as usize]),
             ),
-            Instruction::Load { mode, d } => self.load(mode, d),
-            Instruction::Store { mode, r } => self.store_by(mode, r),
-            Instruction::LoadDisplaced { base, q, d } => self.registers[d as usize] =
-                self.memory[self.displaced(base, q) as usize],
-            Instruction::StoreDisplaced { base, q, r } => self.memory[self.displaced(
-                base,
-                q,
-            ) as usize] = self.registers[r as usize],
-            Instruction::Clc => self.carry = false,
-            _ => {}
+            PairWork::Quiet(Quiet::Movw { d, r }) => self.copy_pair(d, r),
+            PairWork::Quiet(Quiet::Clc) => self.carry = false,
+            PairWork::Quiet(Quiet::Nop) => {}
         }
     }
 
-    /// Whether an instruction goes aside here.
-    pub fn diverts(&self, instruction: Instruction) -> bool
-        requires { ⌜ Operands instruction ⌝ }
-        ensures { λ r. ⌜ r ≡ divertsOf instruction (coreOf (now (self .entry))) ⌝ }
+    /// Carries a word's work out.
+    pub(crate) fn perform(&mut self, work: Work)
+        requires { ⌜ Fits work ⌝ ∗ ⌜ length (now (now self .memory)) ≡ 65536 ⌝ }
+        ensures state { λ _. ⌜ coreOf (now (self .exit)) ≡ workEffect work (coreOf (now (self .entry))) ⌝ }
+        ensures lent { λ _. ⌜ name (now (self .exit) .memory) ≡ name (now (self .entry) .memory) ⌝ }
     {
-        match instruction {
-            Instruction::Binary {
-                op: BinaryOp::Cpse,
-                d,
-                r,
-            } => self.registers[d as usize] == self.registers[r as usize],
-            Instruction::Branch {
-                flag: Flag::Carry,
-                set,
-                ..
-            } => self.carry == set,
-            Instruction::Branch {
-                flag: Flag::Zero,
-                set,
-                ..
-            } => self.zero == set,
-            _ => false,
+        match work {
+            Work::Byte { d, work } => self.byte(work, d),
+            Work::Access(access) => self.access(access),
+            Work::Pair(work) => self.pairs(work),
         }
     }
-}
 
-/// The address that a mode uses, where its pointer holds `pointer`.
-fn used_at(mode: Mode, pointer: u16) -> u16
-    ensures { λ r. ⌜ r ≡ usedAt mode pointer ⌝ }
-{
-    match mode {
-        Mode::X | Mode::XInc | Mode::YInc | Mode::ZInc => pointer,
-        Mode::XDec | Mode::YDec | Mode::ZDec => pointer.wrapping_sub(1),
+    /// Whether a fork goes aside here.
+    pub(crate) fn passes(&self, test: Test) -> bool
+        requires { ⌜ TestFits test ⌝ }
+        ensures { λ r. ⌜ r ≡ testOf test (coreOf (now (self .entry))) ⌝ }
+    {
+        match test {
+            Test::Carry(set) => self.carry == set,
+            Test::Zero(set) => self.zero == set,
+            Test::Equal(d, r) => self.registers[d as usize] == self.registers[r as usize],
+        }
     }
 }

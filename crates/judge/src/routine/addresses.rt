@@ -54,7 +54,7 @@ impl Routine<'_, '_> {
 
     /// The rules of one address: no call or return inside a region, every edge keeps in, and nothing above level 0 decides
     /// outside.
-    pub fn check_address<O: Order>(&self, order: &O, at: u16) -> Result<(), FlowFault>
+    pub(crate) fn check_address<O: Order>(&self, order: &O, at: u16) -> Result<(), FlowFault>
         requires { ⌜ at < length (now (now self .words)) ⌝ }
         ensures { λ r. ⌜ says flowRefusal r ≡ addressRule (O·Order .meaning (now (order .entry))) (chip (now (self .entry))) (seen (now (self .entry))) at ⌝ }
     {

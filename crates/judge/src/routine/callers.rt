@@ -31,7 +31,7 @@ fn callee(instruction: Instruction, at: u16) -> u32
 
 impl Routine<'_, '_> {
     /// The function that each word calls.
-    pub fn callees(&self) -> [u32; CAPACITY]
+    pub(crate) fn callees(&self) -> [u32; CAPACITY]
         ensures { λ r. ⌜ Callees (now (self .entry)) r ⌝ }
     {
         let mut callees = [NOWHERE; CAPACITY];
@@ -79,7 +79,7 @@ impl Routine<'_, '_> {
     }
 
     /// The edges of a return: to its callers, and from function 0 to the finish row.
-    pub fn check_returns<O: Order>(
+    pub(crate) fn check_returns<O: Order>(
         &self,
         order: &O,
         departure: &Departure,

@@ -90,7 +90,7 @@ impl Routine<'_, '_> {
     }
 
     /// The rules of one edge: its time, then its levels, place by place, then its region level.
-    pub fn check_edge<O: Order>(
+    pub(crate) fn check_edge<O: Order>(
         &self,
         order: &O,
         departure: &Departure,

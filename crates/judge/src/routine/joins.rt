@@ -74,7 +74,7 @@ impl Routine<'_, '_> {
     }
 
     /// The level of what decides where an instruction leads: 0 unless it forks.
-    pub fn deciding<O: Order>(&self, order: &O, at: u16, instruction: Instruction) -> u16
+    pub(crate) fn deciding<O: Order>(&self, order: &O, at: u16, instruction: Instruction) -> u16
         ensures { λ r. ⌜ r ≡ decidingOf (O·Order .meaning (now (order .entry))) (seen (now (self .entry)) .level at) (kindOf at instruction) ⌝ }
     {
         match instruction.route(at) {
@@ -94,7 +94,7 @@ impl Routine<'_, '_> {
     }
 
     /// The level of each place after an instruction.
-    pub fn levels_after<O: Order>(
+    pub(crate) fn levels_after<O: Order>(
         &self,
         order: &O,
         at: u16,

@@ -18,7 +18,7 @@ use words::route::Route;
 
 impl Routine<'_, '_> {
     /// All rows in turn, the finish row too.
-    pub fn check_rows<O: Order>(&self, order: &O) -> Result<(), RowFault>
+    pub(crate) fn check_rows<O: Order>(&self, order: &O) -> Result<(), RowFault>
         ensures { λ r. ⌜ says rowRefusal r ≡ rowRules (O·Order .meaning (now (order .entry))) (length (now (now (self .entry) .words))) (now (now (self .entry) .rows)) ⌝ }
     {
         for row in 0..=self.len() {
@@ -28,7 +28,7 @@ impl Routine<'_, '_> {
     }
 
     /// All addresses in turn.
-    pub fn check_addresses<O: Order>(&self, order: &O) -> Result<(), FlowFault>
+    pub(crate) fn check_addresses<O: Order>(&self, order: &O) -> Result<(), FlowFault>
         ensures { λ r. ⌜ says flowRefusal r ≡ addressRules (O·Order .meaning (now (order .entry))) (chip (now (self .entry))) (seen (now (self .entry))) ⌝ }
     {
         for at in 0..self.len() {
@@ -85,7 +85,7 @@ impl Routine<'_, '_> {
     }
 
     /// All edges in turn, by the address that they leave.
-    pub fn check_edges<O: Order>(&self, order: &O) -> Result<(), FlowFault>
+    pub(crate) fn check_edges<O: Order>(&self, order: &O) -> Result<(), FlowFault>
         ensures { λ r. ⌜ says flowRefusal r ≡ edgeRules (O·Order .meaning (now (order .entry))) (chip (now (self .entry))) (seen (now (self .entry))) ⌝ }
     {
         let callees = self.callees();

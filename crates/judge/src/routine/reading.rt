@@ -27,7 +27,7 @@ const COLUMNS: usize = 39;
 
 impl<'w, 'r> Routine<'w, 'r> {
     /// Whether the numbers of the rows are as many as the words call for.
-    pub fn check(words: &[u16], rows: &[u16]) -> Result<(), RowFault>
+    pub(crate) fn check(words: &[u16], rows: &[u16]) -> Result<(), RowFault>
         requires { ⌜ length (now words) ≤ 1024 ⌝ }
         ensures { λ r. ⌜ says rowRefusal r ≡ lengthRule (length (now (words .entry))) (now (rows .entry)) ⌝ }
     {
@@ -39,7 +39,7 @@ impl<'w, 'r> Routine<'w, 'r> {
     }
 
     /// The routine of words and rows that `check` has just accepted.
-    pub fn new(words: &'w [u16], rows: &'r [u16]) -> Self
+    pub(crate) fn new(words: &'w [u16], rows: &'r [u16]) -> Self
         requires { ⌜ length (now words) ≤ 1024 ⌝ ∗ ⌜ length (now rows) ≡ (length (now words) + 1) * columns ⌝ }
         ensures { λ r. ⌜ (now (r .words) ≡ now (words .entry)) × (now (r .rows) ≡ now (rows .entry)) ⌝ }
     {
@@ -47,7 +47,7 @@ impl<'w, 'r> Routine<'w, 'r> {
     }
 
     /// How many words there are, which is also the finish row's own number.
-    pub fn len(&self) -> u16
+    pub(crate) fn len(&self) -> u16
         ensures value { λ r. ⌜ r ≡ length (now (now (self .entry) .words)) ⌝ }
         ensures few { λ r. ⌜ r ≤ 1024 ⌝ }
     {
@@ -55,7 +55,7 @@ impl<'w, 'r> Routine<'w, 'r> {
     }
 
     /// The instruction at an address.
-    pub fn instruction(&self, at: u16) -> Instruction
+    pub(crate) fn instruction(&self, at: u16) -> Instruction
         requires { ⌜ at < length (now (now self .words)) ⌝ }
         ensures { λ r. ⌜ r ≡ instructionOf (now (now (self .entry) .words)) at ⌝ }
     {
@@ -63,7 +63,7 @@ impl<'w, 'r> Routine<'w, 'r> {
     }
 
     /// The number in one column of one row.
-    pub fn cell(&self, row: u32, column: u16) -> u16
+    pub(crate) fn cell(&self, row: u32, column: u16) -> u16
         ensures { λ r. ⌜ r ≡ cellOf (length (now (now (self .entry) .words))) (now (now (self .entry) .rows)) row column ⌝ }
     {
         if row > u32::from(self.len()) {
@@ -78,7 +78,7 @@ impl<'w, 'r> Routine<'w, 'r> {
     }
 
     /// The level of a place in a row.
-    pub fn level(&self, row: u32, place: u16) -> u16
+    pub(crate) fn level(&self, row: u32, place: u16) -> u16
         ensures { λ r. ⌜ r ≡ seen (now (self .entry)) .level row place ⌝ }
     {
         if place < PLACES {
@@ -89,42 +89,42 @@ impl<'w, 'r> Routine<'w, 'r> {
     }
 
     /// The region level of a row.
-    pub fn region(&self, row: u32) -> u16
+    pub(crate) fn region(&self, row: u32) -> u16
         ensures { λ r. ⌜ r ≡ seen (now (self .entry)) .region row ⌝ }
     {
         self.cell(row, REGION)
     }
 
     /// The join address of a row.
-    pub fn meets(&self, row: u32) -> u16
+    pub(crate) fn meets(&self, row: u32) -> u16
         ensures { λ r. ⌜ r ≡ seen (now (self .entry)) .meets row ⌝ }
     {
         self.cell(row, MEETS)
     }
 
     /// The cycles that remain from a row to its join address: none outside every region.
-    pub fn remaining(&self, row: u32) -> u16
+    pub(crate) fn remaining(&self, row: u32) -> u16
         ensures { λ r. ⌜ r ≡ seen (now (self .entry)) .remaining row ⌝ }
     {
         self.cell(row, REMAINING)
     }
 
     /// The function that a row belongs to.
-    pub fn function(&self, row: u32) -> u16
+    pub(crate) fn function(&self, row: u32) -> u16
         ensures { λ r. ⌜ r ≡ seen (now (self .entry)) .function row ⌝ }
     {
         self.cell(row, FUNCTION)
     }
 
     /// Whether a row is inside a region.
-    pub fn is_inside(&self, row: u32) -> bool
+    pub(crate) fn is_inside(&self, row: u32) -> bool
         ensures { λ r. ⌜ r ≡ inside (seen (now (self .entry))) row ⌝ }
     {
         self.remaining(row) > 0
     }
 
     /// Whether a row is outside every region.
-    pub fn is_outside(&self, row: u32) -> bool
+    pub(crate) fn is_outside(&self, row: u32) -> bool
         ensures { λ r. ⌜ r ≡ outside (seen (now (self .entry))) row ⌝ }
     {
         self.remaining(row) == 0

@@ -81,7 +81,7 @@ impl Routine<'_, '_> {
     }
 
     /// The rules of one row: its codes, then its shape.
-    pub fn check_row<O: Order>(&self, order: &O, row: u16) -> Result<(), RowFault>
+    pub(crate) fn check_row<O: Order>(&self, order: &O, row: u16) -> Result<(), RowFault>
         ensures { λ r. ⌜ says rowRefusal r ≡ rowRule (O·Order .meaning (now (order .entry))) (length (now (now (self .entry) .words))) (now (now (self .entry) .rows)) row ⌝ }
     {
         self.check_codes(order, row)?;

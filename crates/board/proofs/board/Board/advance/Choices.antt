@@ -6,7 +6,7 @@ use Rattle.avr.specs.Chip.{avr}
 use Rattle.board.specs.States.{stateOf, wordsOf, Lent}
 use Rattle.board.proofs.board.Board.advance.Given as given
 
--- what runs on from here runs on from the start
+-- a run from here to its end makes one from the start
 abbrev pub Inv-loop-ending : given.InvT-loop-ending
 Inv-loop-ending l =
     ((t : State Core) (e : Ending) → Runs (avr (wordsOf (l .entry .self))) (l .limit) (stateOf (l .self)) t e → Runs (avr (wordsOf (l .entry .self))) (l .limit) (stateOf (l .entry .self)) t e)

@@ -1,10 +1,10 @@
-use mathlib.Core.Path.{_≡_, sym, _∙_}
+use mathlib.Core.Path.{_≡_, sym}
 use mathlib.Core.Bool.{true, false}
 use native.Mathlib.Omega.{arith}
-use Rattle.verdicts.proofs.Firsts.{first-none, first-more, first-stop, first-all}
+use Rattle.verdicts.proofs.Firsts.{first-none, first-more, first-stop, rule-met}
 use Rattle.secrecy.specs.Flow.{levelAfter}
 use Rattle.judge.specs.Views.{seen, chip}
-use Rattle.judge.proofs.Checks.{kept, broken}
+use Rattle.judge.proofs.Checks.{broken}
 use Rattle.judge.proofs.routine.Routine.check_levels.Needs as need
 
 pub loop-place-holds : need.loop-place-holds
@@ -22,4 +22,4 @@ loop-place-again g c =
     let test = c .if-not-flows .ensures tt in
     let after = c .pre .levels (c .loop-place .place) (omega arith) in
     let e : g .O·Order .meaning (c .args .order .now) .flows (levelAfter (g .O·Order .meaning (c .args .order .now)) (chip (c .args .self .now)) (seen (c .args .self .now)) (c .args .departure .now .at) (c .loop-place .place)) (seen (c .args .self .now) .level (c .args .next) (c .loop-place .place)) ≡ true = cc in
-    first-more _ _ (c .loop-place .inv) (kept _ 10 _ e)
+    first-more _ _ (c .loop-place .inv) (rule-met _ 10 _ e)

@@ -3,7 +3,6 @@ use lib.ListN.{length}
 use denote.Ref.{now}
 use Rattle.secrecy.specs.Rules.{rowRule}
 use Rattle.verdicts.specs.Verdict.{first, fine}
-use Rattle.judge.specs.Views.{seen, chip}
 use Rattle.judge.proofs.routine.Routine.check_rows.Given as given
 
 abbrev pub Inv-loop-row : given.InvT-loop-row

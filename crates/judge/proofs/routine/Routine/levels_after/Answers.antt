@@ -1,6 +1,6 @@
 use borrow.Author.Count.{below-more}
 use native.Mathlib.Omega.{arith}
-use mathlib.Core.Path.{_≡_, sym, ap, _∙_}
+use mathlib.Core.Path.{_∙_}
 use mathlib.Core.Logic.{_≢_}
 use Prim.Native.Nat.{_<_}
 use lib.ListN.{length, length-set}

@@ -23,7 +23,7 @@ pub returns-in-Break-check-word : need.returns-in-Break-check-word
 returns-in-Break-check-word c =
     let ws = c .args .words .now in
     says-err wordRefusal (c .from-residual-in-Break-check-word .result) _ (c .from-residual-in-Break-check-word .ensures .1)
-      ∙ sym (then-on _ _ _ (sym (c .in-Continue-check-length .ensures tt)) (first-stop (decodesAt ws) (c .loop-at .at) (length ws) _ (c .loop-at .inv) (sym (c .in-Break-check-word .ensures tt)) (c .loop-at-test .taken)))
+    ∙ sym (then-on _ _ _ (sym (c .in-Continue-check-length .ensures tt)) (first-stop (decodesAt ws) (c .loop-at .at) (length ws) _ (c .loop-at .inv) (sym (c .in-Break-check-word .ensures tt)) (c .loop-at-test .taken)))
 
 pub loop-at-again : need.loop-at-again
 loop-at-again c = first-more (decodesAt (c .args .words .now)) (c .loop-at .at) (c .loop-at .inv) (sym (c .in-Continue-check-word .ensures tt))
