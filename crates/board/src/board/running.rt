@@ -5,6 +5,7 @@ ghost use lib.ListN.{length};
 ghost use lib.Dec.{ltb};
 ghost use Rattle.std.specs.Options.{Cases};
 ghost use Rattle.machine.specs.Run.{landed, step as stepOf, Runs};
+ghost use Rattle.machine.specs.Laws.{Counts};
 ghost use Rattle.machine.specs.Calls.{ends, does, run as runCall, phaseOf};
 ghost use Rattle.avr.specs.Chip.{instructionOf, avr};
 ghost use Rattle.board.specs.declared.cell.Leave.the-variants.{Jump, Call, Return};
@@ -181,8 +182,8 @@ impl Board<'_, '_> {
         }
     }
 
-    /// Runs up to a limit of cycles. An ended or stopped board stays as it is and repeats its ending.
-    pub fn run(&mut self, limit: u32) -> Ending
+    /// Goes on up to a limit of cycles, unless the board has ended or is stopped.
+    fn carry_on(&mut self, limit: u32) -> Ending
         ensures state { λ r. ⌜ after (now (self .exit)) (ends r) ≡ does (avr (wordsOf (now (self .entry)))) (runCall limit) (boardOf (now (self .entry))) ⌝ }
         ensures same { λ _. ⌜ Lent (now (self .entry)) (now (self .exit)) ⌝ }
     {
@@ -194,5 +195,15 @@ impl Board<'_, '_> {
         let ending = self.advance(limit);
         self.phase = left_in(ending);
         ending
+    }
+
+    /// Runs up to a limit of cycles. An ended or stopped board stays as it is and repeats its ending. The count of a run is the
+    /// sum of the cycles of the words that it carries out.
+    pub fn run(&mut self, limit: u32) -> Ending
+        ensures state { λ r. ⌜ after (now (self .exit)) (ends r) ≡ does (avr (wordsOf (now (self .entry)))) (runCall limit) (boardOf (now (self .entry))) ⌝ }
+        ensures same { λ _. ⌜ Lent (now (self .entry)) (now (self .exit)) ⌝ }
+        ensures counts { λ _. ⌜ Counts (avr (wordsOf (now (self .entry)))) limit (stateOf (now (self .entry))) ⌝ }
+    {
+        self.carry_on(limit)
     }
 }

@@ -1,11 +1,14 @@
+use Rattle.machine.proofs.Runs.{counts}
+use Rattle.avr.specs.Chip.{instructionOf, avr}
+use Rattle.avr.proofs.Sounds.{positive}
 use Rattle.board.specs.States.{stateOf, wordsOf}
-use Rattle.board.proofs.Steps.{ran}
 use Rattle.board.proofs.board.Board.run.Needs as need
 
 pub returns : need.returns
 returns c =
     let b = c .args .self .now in
     record {
-      state = ran (wordsOf b) (c .args .limit) (b .phase) _ (stateOf b) (stateOf (c .advance-ending .last .self)) (c .advance-ending .result) (c .in-Loading .is) (c .left-in-self .ensures) (c .advance-ending .ensures .state);
-      same = record { words = c .advance-ending .ensures .same .words; bytes = c .advance-ending .ensures .same .bytes };
+      state = c .carry-on .ensures .state;
+      same = c .carry-on .ensures .same;
+      counts = counts (avr (wordsOf b)) (λ a. positive a (instructionOf (wordsOf b) a)) (c .args .limit) (stateOf b);
     }
