@@ -94,7 +94,7 @@ fn read_pair(heap: Global, line: &mut Line<'_>) -> Result<OrderText, Fault>
 }
 
 /// The order that a line names, behind the keyword `order`.
-pub fn read_order(heap: Global, mut line: Line<'_>) -> Result<OrderText, Fault>
+pub(crate) fn read_order(heap: Global, mut line: Line<'_>) -> Result<OrderText, Fault>
     ensures { λ r. ⌜ Answers writtenOf r (orderOf (tokensOf (lineLeft (line .entry)))) ⌝ }
 {
     let mut ahead = line;

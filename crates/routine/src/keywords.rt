@@ -65,7 +65,7 @@ impl Keyword {
 
 impl Kind {
     /// The kind of order that a token names, if it names one.
-    pub fn from_token(token: &[u8]) -> Option<Kind>
+    pub(crate) fn from_token(token: &[u8]) -> Option<Kind>
         ensures { λ r. ⌜ r ≡ kindOf (now (token .entry)) ⌝ }
     {
         if is(token, "chain") {

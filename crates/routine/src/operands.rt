@@ -79,7 +79,7 @@ pub(crate) fn read_size(line: &mut Line<'_>) -> Result<u16, Malformed>
 }
 
 /// The numbers of a line, which has one at least.
-pub fn read_words(heap: Global, line: Line<'_>) -> Result<Vec<u16>, Fault>
+pub(crate) fn read_words(heap: Global, line: Line<'_>) -> Result<Vec<u16>, Fault>
     ensures { λ r. ⌜ Answers vec-items r (wordsOf (tokensOf (lineLeft (line .entry)))) ⌝ }
 {
     if is_empty(line) {

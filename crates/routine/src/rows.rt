@@ -69,7 +69,7 @@ pub enum RowName {
 
 impl Column {
     /// Where it stands in its row.
-    pub fn index(self) -> usize
+    pub(crate) fn index(self) -> usize
         ensures { λ r. ⌜ r ≡ indexOf self ⌝ }
     {
         match self {
@@ -108,7 +108,7 @@ impl Column {
     }
 
     /// The column of this name.
-    pub fn from_name(name: &[u8]) -> Result<Column, Malformed>
+    pub(crate) fn from_name(name: &[u8]) -> Result<Column, Malformed>
         ensures { λ r. ⌜ r ≡ columnOf (now (name .entry)) ⌝ }
     {
         if let Some(column) = Column::from_own_name(name) {

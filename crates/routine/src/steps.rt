@@ -36,7 +36,7 @@ pub enum Step {
 
 impl Step {
     /// Whether it judges the routine.
-    pub fn is_judge(self) -> bool
+    pub(crate) fn is_judge(self) -> bool
         ensures { λ r. ⌜ r ≡ isJudge self ⌝ }
     {
         match self {
