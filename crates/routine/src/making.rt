@@ -23,7 +23,7 @@ pub enum Made {
 
 impl SimpleText {
     /// Makes the order.
-    pub(crate) fn make(&self) -> Result<Simple, OrderFault>
+    pub fn make(&self) -> Result<Simple, OrderFault>
         ensures { λ r. ⌜ outcome meaningOf refusalOf r ≡ makingOf (formOf (now (self .entry))) ⌝ }
     {
         match self {
