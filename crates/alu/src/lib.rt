@@ -2,5 +2,7 @@
 //!
 //! It stands on `words` for the names of the operations. It knows nothing of registers, memory, addresses or cycles: where a
 //! result goes is for those above.
+#![tactic(auto)]
+
 pub mod arithmetic;
 pub mod output;

@@ -2,6 +2,7 @@
 //!
 //! Without arguments it makes one short run and prints what came of it, always the same lines. With a number it makes that
 //! many long runs and prints how fast they went.
+#![tactic(auto)]
 
 ghost use Rattle.std.specs.Prelude.{◌≡◌, ◌+◌, ◌*◌};
 

@@ -2,6 +2,8 @@
 //!
 //! The crate has no code that runs: the table stands in specs/Cases.antt, and the one function below says that every row of
 //! it holds.
+#![tactic(auto)]
+
 ghost use Rattle.cases.specs.Cases.{CasesStand};
 
 /// Every row of the table of worked examples holds of the definitions.

@@ -4,5 +4,7 @@
 //! instruction at an address. It may use the words with their cycles and routes, the names of the arithmetic, and the chip's
 //! definitions, which say what a cell owes to its instruction. It knows nothing of boards, of lent memory or of levels: it
 //! carries nothing out.
+#![tactic(auto)]
+
 pub mod cell;
 pub mod work;

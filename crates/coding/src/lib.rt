@@ -2,6 +2,8 @@
 //!
 //! It may use the words alone. The theorem takes a test over all 65,536 words, so it has a crate of its own, beside the code that it
 //! speaks of.
+#![tactic(auto)]
+
 ghost use Rattle.std.specs.Prelude.{◌≡◌};
 ghost use Rattle.coding.specs.Inverse.{Inverse, recode_of};
 

@@ -3,5 +3,7 @@
 //!
 //! It stands on `board` for the calls and on the definitions of `secrecy` for what a call on both is; it knows nothing of levels
 //! and judges nothing.
+#![tactic(auto)]
+
 pub mod answers;
 pub mod working;

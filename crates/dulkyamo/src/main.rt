@@ -2,6 +2,8 @@
 //!
 //! It stands on the libraries for everything that decides: `routine` reads, `judge` judges, `couples` works the boards, `explanations`
 //! explains. What is printed is tested by the run in the gate, and not proved: each function is proved to be safe and to end.
+#![tactic(auto)]
+
 mod calls;
 mod judging;
 mod naming;
@@ -16,6 +18,7 @@ use crate::showing::{Cycles, Next};
 use notation::Assembly;
 use routine::Routine;
 use std::io::Read;
+use std::process::ExitCode;
 use std::{env, fs, io};
 use words::fault::WordFault;
 use words::instruction::Instruction;
@@ -39,17 +42,13 @@ Status 0: each file was carried out. Status 1: some file could not be read or is
 /// The name of standard input.
 const INPUT: &str = "<stdin>";
 
-/// Some file was not carried out; standard error says which.
-#[derive(Drop)]
-struct Failed;
-
-fn main(rt: HostRuntime) -> Result<(), Failed> {
+fn main(rt: HostRuntime) -> ExitCode {
     match run(&rt) {
-        Ok(true) => Ok(()),
-        Ok(false) => Err(Failed),
+        Ok(true) => ExitCode::SUCCESS,
+        Ok(false) => ExitCode::FAILURE,
         Err(error) => {
             let _ = eprintln!(rt; "dulkyamo: {error}");
-            Err(Failed)
+            ExitCode::FAILURE
         }
     }
 }

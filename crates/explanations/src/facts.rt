@@ -5,7 +5,7 @@ ghost use Rattle.secrecy.specs.Rows.{cell as cell_of};
 ghost use Rattle.explanations.specs.Views.{seen, cycles_to};
 
 use crate::refusal::Refusal;
-use rows::{FUNCTION, JOIN, REMAINING};
+use row_layout::{FUNCTION, JOIN, REMAINING};
 use words::instruction::Instruction;
 use words::route::Route;
 
@@ -14,7 +14,7 @@ impl Refusal<'_> {
     pub(crate) fn number(&self, row: u32, column: u16) -> u16
         ensures { result ≡ cell_of (length self.now.words.now) self.now.rows.now row column }
     {
-        rows::cell(self.words.len(), self.rows, row, column)
+        row_layout::cell(self.words.len(), self.rows, row, column)
     }
 
     /// The join address of a row.

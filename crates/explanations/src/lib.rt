@@ -2,6 +2,8 @@
 //!
 //! It stands on `judge` for the faults and on `words`, `rows` and `notation` for what a fault is about. It decides nothing: what
 //! it works out besides the fault, as the cycles that a row would have to say, is pinned by the definitions of the rules.
+#![tactic(auto)]
+
 mod facts;
 mod refusal;
 mod texts;

@@ -6,7 +6,7 @@ use avr::sources::Sources;
 use avr::table::deciders;
 use judge::faults::{FlowFault, JudgeFault, RowFault};
 use notation::Assembly;
-use rows::{COLUMNS, Column, REGION};
+use row_layout::{COLUMNS, Column, REGION};
 use std::fmt;
 use words::fault::WordFault;
 use words::instruction::Instruction;

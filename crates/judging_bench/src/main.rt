@@ -2,10 +2,12 @@
 //!
 //! Without arguments it judges one routine of each shape and prints the verdicts, always the same lines. With a number it
 //! judges each that many times, at three lengths, and prints how long it took.
+#![tactic(auto)]
+
 use anyhow::anyhow;
 use judge::judging::judge;
 use levels::chain::Chain;
-use rows::{COLUMNS, FUNCTION};
+use row_layout::{COLUMNS, FUNCTION};
 use std::alloc::{AllocError, Global};
 use std::time::Instant;
 use std::{env, fmt};

@@ -1,6 +1,8 @@
 //! Orders of secrecy levels: the trait that anyone may implement, with the laws that each implementation owes, and four orders.
 //!
 //! It may use the definitions of verdicts. It knows nothing of words, of boards or of what has a level.
+#![tactic(auto)]
+
 pub mod chain;
 pub mod compartments;
 pub mod fault;

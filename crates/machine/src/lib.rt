@@ -3,6 +3,8 @@
 //! The definitions in specs/ are of any machine that is given by its words: where each leads, what it writes and what that
 //! comes from. The board's contracts and the secrecy theorem both speak through them. Of the chip itself this crate knows
 //! nothing.
+#![tactic(auto)]
+
 ghost use Rattle.machine.specs.Laws.{CountsStand};
 
 pub mod phase;

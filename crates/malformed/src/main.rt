@@ -2,6 +2,8 @@
 //!
 //! The program `dulkyamo` says the same on standard error and ends with status 1, which a run in the gate may not: so the texts
 //! are tested here. It stands on `routine` alone, and carries nothing out.
+#![tactic(auto)]
+
 use std::{env, fs, io};
 
 fn main(rt: HostRuntime) -> io::Result<()> {

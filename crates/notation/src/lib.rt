@@ -1,6 +1,8 @@
 //! Instructions in the assembler's notation, as a disassembler prints them.
 //!
 //! It may use the words alone. What is printed is tested, by the vectors, and not proved: a contract cannot speak of a width.
+#![tactic(auto)]
+
 use std::fmt;
 use words::instruction::{Base, BinaryOp, Flag, ImmediateOp, Instruction, Mode, UnaryOp, WideOp};
 

@@ -4,9 +4,9 @@ use Rattle.std.specs.Result as results
 use Rattle.std.specs.Str.{bytes_eq}
 use Rattle.text.specs.Numbers.{number_of, limited}
 use Rattle.text.specs.Refusals.{assigned}
-use Rattle.rows.specs.declared.layout.Column.{Column}
-use Rattle.rows.specs.declared.layout.Column.TheVariants as column
-use Rattle.rows.specs.Columns.{index_of}
+use Rattle.row_layout.specs.declared.layout.Column.{Column}
+use Rattle.row_layout.specs.declared.layout.Column.TheVariants as column
+use Rattle.row_layout.specs.Columns.{index_of}
 use Rattle.routine.specs.declared.faults.Malformed.{Malformed}
 use Rattle.routine.specs.declared.faults.Malformed.TheVariants.{NoRow, NoAssignment, NoColumn}
 use Rattle.routine.specs.declared.rows.Entry.{Entry}

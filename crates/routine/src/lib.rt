@@ -2,6 +2,8 @@
 //!
 //! It may use the tokens of `text`, the layout of `rows`, the descriptions of `orders` and the locations of a chip. It carries nothing
 //! out and judges nothing: what a file asks for is for the program. docs/FORMAT.md has the rules in words.
+#![tactic(auto)]
+
 mod faults;
 mod files;
 mod forms;

@@ -2,7 +2,7 @@
 ghost use Rattle.std.specs.Prelude.{◌≡◌, ◌+◌, vec_items, slice_set};
 ghost use Rattle.text.specs.Lines.{line_left};
 ghost use Rattle.text.specs.Tokens.{tokens_of};
-ghost use Rattle.rows.specs.Columns.{index_of};
+ghost use Rattle.row_layout.specs.Columns.{index_of};
 ghost use Rattle.routine.specs.Gathered.{gathered};
 ghost use Rattle.routine.specs.Rows.{column_by_own_name, column_by_name, entry_of, row_by_token, row_of, number_of_row, written_at};
 ghost use Rattle.routine.specs.Answers.{Answers};
@@ -10,7 +10,7 @@ ghost use Rattle.routine.specs.Answers.{Answers};
 use crate::faults::{Fault, Malformed};
 use crate::keywords::is;
 use crate::operands::{number_of, register_digits, word_of};
-use rows::{COLUMNS, Column};
+use row_layout::{COLUMNS, Column};
 use std::alloc::Global;
 use text::{Line, assignment, number};
 

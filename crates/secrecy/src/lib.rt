@@ -2,6 +2,8 @@
 //!
 //! The crate has no code that runs. Its definitions in specs/ are of any order of levels and of any machine, through their
 //! meaning and their laws alone, and each function below carries a theorem about them in its contract.
+#![tactic(auto)]
+
 ghost use Rattle.secrecy.specs.Accepted.{RulesStand};
 ghost use Rattle.secrecy.specs.Examples.{Examples};
 ghost use Rattle.secrecy.specs.Hiding.{HidingStands};

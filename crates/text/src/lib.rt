@@ -3,6 +3,8 @@
 //!
 //! It uses no other crate and knows no keyword. Nothing is copied: lines and tokens are slices of the file. docs/TEXT.md has the
 //! rules in words. Every call takes any bytes.
+#![tactic(auto)]
+
 mod bytes;
 mod checking;
 mod cursors;

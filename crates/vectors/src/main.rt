@@ -1,5 +1,7 @@
 //! Reads a table of words and of the texts that an independent disassembler gives them, and compares each with the word's own
 //! reading. `-` stands for a word that does not decode. What is read is encoded again, too.
+#![tactic(auto)]
+
 use anyhow::anyhow;
 use coding::recode;
 use notation::Assembly;

@@ -2,6 +2,8 @@
 //!
 //! The crate has no code that runs: its definitions in specs/ are what the contracts of every call that may refuse speak
 //! through, and the one function below carries the law that says what they come to.
+#![tactic(auto)]
+
 ghost use Rattle.verdicts.specs.Laws.{FirstBrokenStands};
 
 /// A check over rules 0 to n - 1 finds nothing if and only if each of them holds, and else names the first that is broken.

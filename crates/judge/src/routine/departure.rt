@@ -1,5 +1,5 @@
 //! What a word leaves behind.
-use rows::PLACES;
+use row_layout::PLACES;
 
 /// How many levels there are after a word: one for each place.
 pub const LEVELS: usize = PLACES as usize;

@@ -11,7 +11,7 @@ use crate::faults::FlowFault;
 use crate::routine::Routine;
 use crate::routine::departure::Departure;
 use levels::order::Order;
-use rows::{PLACES, REGION};
+use row_layout::{PLACES, REGION};
 
 impl Routine<'_, '_> {
     /// Whether an edge ends the region that it comes from, just in time.

@@ -11,7 +11,7 @@ use crate::routine::departure::LEVELS;
 use avr::sources::Sources;
 use avr::table::{comes_from, deciders};
 use levels::order::Order;
-use rows::PLACES;
+use row_layout::PLACES;
 use words::instruction::Instruction;
 use words::route::Route;
 

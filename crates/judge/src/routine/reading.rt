@@ -9,7 +9,7 @@ ghost use Rattle.judge.specs.Views.{seen};
 
 use crate::faults::RowFault;
 use crate::routine::Routine;
-use rows::{COLUMNS, FUNCTION, JOIN, PLACES, REGION, REMAINING};
+use row_layout::{COLUMNS, FUNCTION, JOIN, PLACES, REGION, REMAINING};
 use words::instruction::Instruction;
 
 impl<'w, 'r> Routine<'w, 'r> {
@@ -53,7 +53,7 @@ impl<'w, 'r> Routine<'w, 'r> {
     pub(crate) fn cell(&self, row: u32, column: u16) -> u16
         ensures { result ≡ cell_of (length self.now.words.now) self.now.rows.now row column }
     {
-        rows::cell(self.words.len(), self.rows, row, column)
+        row_layout::cell(self.words.len(), self.rows, row, column)
     }
 
     /// The level of a place in a row.

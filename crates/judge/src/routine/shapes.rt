@@ -9,7 +9,7 @@ ghost use Rattle.judge.specs.Views.{seen};
 use crate::faults::RowFault;
 use crate::routine::Routine;
 use levels::order::Order;
-use rows::REGION;
+use row_layout::REGION;
 
 impl Routine<'_, '_> {
     /// Whether every code of a row is held, column by column.

@@ -2,6 +2,8 @@
 //!
 //! It may use the places of the chip (`avr`) and the columns of the rules (`secrecy`). It knows nothing of orders, of files, or of
 //! what is judged.
+#![tactic(auto)]
+
 mod layout;
 mod reading;
 

@@ -3,7 +3,7 @@ ghost use Rattle.std.specs.Prelude.{◌≡◌, nat_lt};
 ghost use Rattle.std.specs.Option.{option_map};
 ghost use Rattle.std.specs.Bool.{then_some};
 ghost use Rattle.secrecy.specs.Rows.{columns};
-ghost use Rattle.rows.specs.Columns.{index_of, column_at};
+ghost use Rattle.row_layout.specs.Columns.{index_of, column_at};
 
 use avr::table::{CARRY, MEMORY, ZERO};
 

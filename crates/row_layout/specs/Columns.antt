@@ -1,8 +1,8 @@
 -- Where the columns of a row stand. Assumes nothing.
 use Rattle.std.specs.Prelude.{ℕ, cond, List, [], ◌∷◌, Some, None, Option, ◌==◌, nat_lt}
 use Rattle.avr.specs.Table.{carry_place}
-use Rattle.rows.specs.declared.layout.Column.{Column}
-use Rattle.rows.specs.declared.layout.Column.TheVariants.{Register, Carry, Zero, Memory, Region, Join, Remaining, Function}
+use Rattle.row_layout.specs.declared.layout.Column.{Column}
+use Rattle.row_layout.specs.declared.layout.Column.TheVariants.{Register, Carry, Zero, Memory, Region, Join, Remaining, Function}
 
 -- where in its row a column stands
 abbrev pub index_of : Column → ℕ

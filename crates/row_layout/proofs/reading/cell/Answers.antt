@@ -1,6 +1,6 @@
 use Rattle.std.proofs.Common.{◌≡◌, ℕ, ◌+◌, ◌*◌, Bool, true, false, cond, sym, refl, arith}
 use Rattle.std.proofs.lemmas.List.{get_or_past}
-use Rattle.rows.proofs.reading.cell.Goals as goal
+use Rattle.row_layout.proofs.reading.cell.Goals as goal
 
 either : (b : Bool) (n : ℕ) → n ≡ 0 → 0 ≡ cond b 0 n
 either true n e = refl
