@@ -1,6 +1,6 @@
 -- Each number of the tables fits its field and names what it stands for; a distance that fits comes back from its field.
 use Rattle.std.proofs.Common.{◌≡◌, ℕ, ◌-◌, ◌*◌, ◌<◌, true, ltb, ℤ, pos, negsuc, Some, Option, refl, ap, ◌∙◌, arith, lit<}
-use Rattle.std.proofs.lemmas.Bool.{ltb-true, le-ltb, cond_true, cond_false}
+use Rattle.std.proofs.lemmas.Bool.{ltb-true, le-ltb, cond-true, cond-false}
 use Rattle.words.specs.declared.instruction.BinaryOp.{BinaryOp}
 use Rattle.words.specs.declared.instruction.BinaryOp.TheVariants as binary
 use Rattle.words.specs.declared.instruction.ImmediateOp.{ImmediateOp}
@@ -80,9 +80,9 @@ pub record Placed (half : ℕ) (k : ℤ) : Type 0 where
 pub placed : (half : ℕ) (k : ℤ) → fits_field half k ≡ true → Placed half k
 placed half (pos n) h =
     let below : n < half = ltb-true n half h in
-    record { small = omega arith; back = cond_true (ltb n half) (pos n) (negsuc (2 * half - 1 - n)) h }
+    record { small = omega arith; back = cond-true (ltb n half) (pos n) (negsuc (2 * half - 1 - n)) h }
 placed half (negsuc n) h =
     let below : n < half = ltb-true n half h in
     let field : ℕ = 2 * half - 1 - n in
     let again : 2 * half - 1 - field ≡ n = omega arith in
-    record { small = omega arith; back = cond_false (ltb field half) (pos field) (negsuc (2 * half - 1 - field)) (le-ltb field half (omega arith)) ∙ ap negsuc again }
+    record { small = omega arith; back = cond-false (ltb field half) (pos field) (negsuc (2 * half - 1 - field)) (le-ltb field half (omega arith)) ∙ ap negsuc again }

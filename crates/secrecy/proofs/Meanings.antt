@@ -1,7 +1,7 @@
 -- What the rules mean: the checks find nothing if rows are accepted, and only then.
 use Rattle.std.proofs.Common.{◌≡◌, ℕ, ◌+◌, ◌*◌, ◌<◌, ◌≤◌, Bool, true, false, ◌&&◌, ◌||◌, eqb, ltb, ◌⊎◌, List, length, Decides, sym, refl, ap, ◌∙◌, inl, inr, ⊎_elim, arith, ltb-false, ltb-true, lt-ltb}
 use borrow.Author.Tests.{both_ways}
-use Rattle.std.proofs.lemmas.Bool.Decides.{Decides-eqb, Decides-ltb, decides_and, Decides-or, Decides-like}
+use Rattle.std.proofs.lemmas.Bool.Decides.{Decides-eqb, Decides-ltb, Decides-and, Decides-or, Decides-like}
 use Rattle.std.proofs.lemmas.Bool.{cases_lt, or_right}
 use Rattle.verdicts.specs.Verdict.{first}
 use Rattle.levels.specs.Order.{Meaning}
@@ -30,7 +30,7 @@ module _ (n : ℕ) (R : Rows) where
   Bare row = (R.region row ≡ 0) × (R.meets row ≡ 0)
 
   bare : (row : ℕ) → Decides (eqb (R.region row) 0 && eqb (R.meets row) 0) (Bare row)
-  bare row = decides_and _ _ (Decides-eqb (R.region row) 0) (Decides-eqb (R.meets row) 0)
+  bare row = Decides-and _ _ (Decides-eqb (R.region row) 0) (Decides-eqb (R.meets row) 0)
 
   -- what is asked of the finish row
   abbrev Finish : ℕ → Type 0
@@ -39,7 +39,7 @@ module _ (n : ℕ) (R : Rows) where
   finish : (row : ℕ) → row ≤ n → Decides (bare_finish n R row) (row ≡ n → Finish row)
   finish row l =
       decides_unless (ltb row n) _ (λ e q. omega (arith, ltb-true row n e)) (λ e. omega (arith, ltb-false row n e))
-      (decides_and _ _ (bare row) (decides_and _ _ (Decides-eqb (R.remaining row) 0) (Decides-eqb (R.function row) 0)))
+      (Decides-and _ _ (bare row) (Decides-and _ _ (Decides-eqb (R.remaining row) 0) (Decides-eqb (R.function row) 0)))
 
   -- the parts of a row's shape, in the order of its test
   abbrev Parts : ℕ → Type 0
@@ -48,10 +48,10 @@ module _ (n : ℕ) (R : Rows) where
 
   parts : (row : ℕ) → row ≤ n → Decides (shaped n R row) (Parts row)
   parts row l =
-      decides_and (bare_outside n R row) _ (decides_at_zero (R.remaining row) _ (bare row))
-      (decides_and (joins_in_listing n R row) _ (decides_above (R.remaining row) _ (Decides-ltb (R.meets row) n))
-      (decides_and (function_in_listing n R row) _ (Decides-ltb (R.function row) n)
-      (decides_and (begins_at_zero n R row) (bare_finish n R row) (decides_at_zero row _ (Decides-eqb (R.function row) 0)) (finish row l))))
+      Decides-and (bare_outside n R row) _ (decides_at_zero (R.remaining row) _ (bare row))
+      (Decides-and (joins_in_listing n R row) _ (decides_above (R.remaining row) _ (Decides-ltb (R.meets row) n))
+      (Decides-and (function_in_listing n R row) _ (Decides-ltb (R.function row) n)
+      (Decides-and (begins_at_zero n R row) (bare_finish n R row) (decides_at_zero row _ (Decides-eqb (R.function row) 0)) (finish row l))))
 
   shape_from : (row : ℕ) → Parts row → Shape n R row
   shape_from row p =
@@ -74,7 +74,7 @@ module _ (n : ℕ) (R : Rows) where
   Kept a b = (b < n) × (R.function b ≡ R.function a)
 
   kept : (a b : ℕ) → Decides (keeps_function n R a b) (Kept a b)
-  kept a b = decides_and _ _ (Decides-ltb b n) (Decides-eqb (R.function b) (R.function a))
+  kept a b = Decides-and _ _ (Decides-ltb b n) (Decides-eqb (R.function b) (R.function a))
 
   -- where a word may lead, by its kind
   abbrev Bounded : ℕ → Kind → Type 0
@@ -85,8 +85,8 @@ module _ (n : ℕ) (R : Rows) where
 
   bound : (a : ℕ) (k : Kind) → Decides (bounded n R a k) (Bounded a k)
   bound a (plain b c) = kept a b
-  bound a (forks qs b c b' c') = decides_and _ _ (kept a b) (kept a b')
-  bound a (calls t c) = decides_and _ _ (decides_and _ _ (Decides-ltb t n) (Decides-eqb (R.function t) t)) (kept a (a + 1))
+  bound a (forks qs b c b' c') = Decides-and _ _ (kept a b) (kept a b')
+  bound a (calls t c) = Decides-and _ _ (Decides-and _ _ (Decides-ltb t n) (Decides-eqb (R.function t) t)) (kept a (a + 1))
   bound a (rets c) = passes
 
 module _ (R : Rows) where
@@ -119,11 +119,11 @@ module _ (R : Rows) where
   Timed a b c = 0 < R.remaining a → Ends a b c ⊎ Remains a b c
 
   ends : (a b c : ℕ) → Decides (leaves R a b c) (Ends a b c)
-  ends a b c = decides_and _ _ (Decides-eqb b (R.meets a)) (decides_and _ _ (Decides-eqb (R.remaining b) 0) (Decides-eqb (R.remaining a) c))
+  ends a b c = Decides-and _ _ (Decides-eqb b (R.meets a)) (Decides-and _ _ (Decides-eqb (R.remaining b) 0) (Decides-eqb (R.remaining a) c))
 
   remains : (a b c : ℕ) → Decides (stays R a b c) (Remains a b c)
   remains a b c =
-      decides_and _ _ (Decides-eqb (R.meets b) (R.meets a)) (decides_and _ _ (Decides-ltb 0 (R.remaining b)) (Decides-eqb (R.remaining a) (c + R.remaining b)))
+      Decides-and _ _ (Decides-eqb (R.meets b) (R.meets a)) (Decides-and _ _ (Decides-ltb 0 (R.remaining b)) (Decides-eqb (R.remaining a) (c + R.remaining b)))
 
   time_says : (a b c : ℕ) → Says (time_rule R a b c) (Timed a b c)
   time_says a b c = says_rule _ _ _ (decides_above (R.remaining a) _ (Decides-or _ _ (ends a b c) (remains a b c)))

@@ -8,7 +8,7 @@ use Rattle.std.specs.List.{AllByRecursion as All}
 use Rattle.std.proofs.lemmas.Fmt.{decimal_is_IsNumeral}
 use Rattle.std.proofs.lemmas.List.{get_or_past}
 use Rattle.std.proofs.lemmas.Str.Parse.{digit_at}
-use Rattle.std.proofs.lemmas.Bool.{cond_true, cond_false, and_from, and_right, or_from, not_from_false, lt-ltb, eq-eqb, ne_eqb, eqb-true, cases_lt}
+use Rattle.std.proofs.lemmas.Bool.{cond-true, cond-false, and_from, and_right, or_from, not_from_false, lt-ltb, eq-eqb, ne_eqb, eqb-true, cases_lt}
 use Rattle.std.proofs.lemmas.Bool.Decides.{nat_tests}
 use Rattle.text.specs.declared.bytes.Base.{Base}
 use Rattle.text.specs.declared.bytes.Base.TheVariants.{Decimal, Hexadecimal}
@@ -24,7 +24,7 @@ all_digits base (d ∷ ds) h = (lt-ltb (digit_value d) (radix base) h.0, all_dig
 
 numeral_is : (base : Base) (ds : List ℕ) (n : ℕ) → IsNumeral (radix base) ds → digits_value (radix base) ds ≡ n → numeral base ds ≡ Some n
 numeral_is base ds n h e =
-    cond_true (is_numeral base ds) _ _
+    cond-true (is_numeral base ds) _ _
     (and_from (not (eqb (length ds) 0)) _ (not_from_false _ (ne_eqb (length ds) 0 (λ z. omega (arith, h.0)))) (whole_all (is_of (Digit base)) ds (all_digits base ds h.1)))
     ∙ ap (λ m. Some m) e
 
@@ -77,12 +77,12 @@ module _ (upper : Bool) where
   unfolding one
   spelt zero n acc h ds =
       let e : n / 16 ≡ 0 = omega arith in
-      subst (Spelt n acc) (sym (cond_true (eqb (n / 16) 0) (one n acc) (digits_onto 0 16 upper (n / 16) (one n acc)) (eq-eqb _ 0 e))) (last n acc e ds)
+      subst (Spelt n acc) (sym (cond-true (eqb (n / 16) 0) (one n acc) (digits_onto 0 16 upper (n / 16) (one n acc)) (eq-eqb _ 0 e))) (last n acc e ds)
   spelt (suc k) n acc h ds = by (eqb (n / 16) 0) refl (spelt k (n / 16) (one n acc) (omega arith) (one_digits n acc ds))
     where
       by : (t : Bool) → eqb (n / 16) 0 ≡ t → Spelt (n / 16) (one n acc) (digits_onto (suc k) 16 upper (n / 16) (one n acc)) → Spelt n acc (digits_onto (suc (suc k)) 16 upper n acc)
-      by true e s = subst (Spelt n acc) (sym (cond_true (eqb (n / 16) 0) (one n acc) (digits_onto (suc k) 16 upper (n / 16) (one n acc)) e)) (last n acc (eqb-true _ 0 e) ds)
-      by false e s = subst (Spelt n acc) (sym (cond_false (eqb (n / 16) 0) (one n acc) (digits_onto (suc k) 16 upper (n / 16) (one n acc)) e)) (next n acc _ s)
+      by true e s = subst (Spelt n acc) (sym (cond-true (eqb (n / 16) 0) (one n acc) (digits_onto (suc k) 16 upper (n / 16) (one n acc)) e)) (last n acc (eqb-true _ 0 e) ds)
+      by false e s = subst (Spelt n acc) (sym (cond-false (eqb (n / 16) 0) (one n acc) (digits_onto (suc k) 16 upper (n / 16) (one n acc)) e)) (next n acc _ s)
 
   hexadecimal : (n : ℕ) → n < 2 ^ 64 → numeral Hexadecimal (digits 16 upper n) ≡ Some n
   unfolding digits

@@ -3,7 +3,7 @@ use Rattle.std.proofs.Common.{◌≡◌, ℕ, ◌+◌, ◌*◌, ◌<◌, ◌≤�
 use Rattle.std.specs.Str.Parse.{digits_value_after}
 use Rattle.std.specs.Char.{digit_value}
 use Rattle.std.proofs.lemmas.List.{at_drop_more, at_drop_all}
-use Rattle.std.proofs.lemmas.Bool.{cond_true, cond_false, le-leb, lt-leb}
+use Rattle.std.proofs.lemmas.Bool.{cond-true, cond-false, le-leb, lt-leb}
 use Rattle.text.specs.declared.bytes.Base.{Base}
 use Rattle.text.specs.declared.bytes.Base.TheVariants.{Decimal, Hexadecimal}
 use Rattle.text.specs.declared.numbers.NumberFault.TheVariants.{TooLarge}
@@ -24,7 +24,7 @@ pub value_end : (b n : ℕ) (ds : List ℕ) (i : ℕ) → length ds ≤ i → di
 value_end b n ds i l = at_drop_all (digits_value_after b n) ds i l
 
 pub limited_above : (n most : ℕ) → most < n → Err TooLarge ≡ limited most (Some n)
-limited_above n most h = sym (cond_false (leb n most) _ _ (lt-leb n most h))
+limited_above n most h = sym (cond-false (leb n most) _ _ (lt-leb n most h))
 
 pub limited_within : (n m most : ℕ) → n ≡ m → n ≤ most → Ok n ≡ limited most (Some m)
-limited_within n m most e h = rw (sym e) (sym (cond_true (leb n most) _ _ (le-leb n most h)))
+limited_within n m most e h = rw (sym e) (sym (cond-true (leb n most) _ _ (le-leb n most h)))
