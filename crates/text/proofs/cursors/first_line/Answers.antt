@@ -14,7 +14,7 @@ returns-then-is-empty c =
 pub returns : goal.returns
 returns c =
     let bs = c.args.bytes.now in
-    let some : 0 < length bs = omega (arith, false-eqb _ 0 c.if-is-empty.ensures) in
+    let some : 0 < length bs = omega (arith, false-eqb _ 0 c.if-is_empty.ensures) in
     let line = c.cut.ensures.front in
-    let rest = c.past-first.ensures ∙ ap (drop 1) c.cut.ensures.behind in
+    let rest = c.past_first.ensures ∙ ap (drop 1) c.cut.ensures.behind in
     (lines_some bs some ∙ sym (λ i. line i ∷ lines_of (rest i)), rest, omega (arith, ap length rest, line_shorter bs some))

@@ -26,7 +26,7 @@ returns c =
     let some : 1 ≤ c.args.levels = omega arith in
     record {
       answer = search rules;
-      exact = (λ e. (record { some = some; few = c.if-levels-gt16.false; square = search rules }, test_laws c.args.levels (join_in c.args.bytes.now c.args.levels) some (omega arith) (sym c.if-not-is-semilattice.ensures)), λ h. refl);
+      exact = (λ e. (record { some = some; few = c.if-levels-gt16.false; square = search rules }, test_laws c.args.levels (join_in c.args.bytes.now c.args.levels) some (omega arith) (sym c.if-not-is_semilattice.ensures)), λ h. refl);
       filled = λ e. (refl, ap (by_join c.args.levels) (read_alike c.padded.result c.args.bytes.now c.args.levels c.padded.ensures));
       unchanged = search rules;
     }

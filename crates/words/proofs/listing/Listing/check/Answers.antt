@@ -23,9 +23,9 @@ returns-in-err-check-word c =
     ∙ sym (then-on _ _ _ (sym c.in-ok-check-length.ensures) (first_stop (decodes_at ws) c.loop-at.at (length ws) _ c.loop-at.invariant (sym c.in-err-check-word.ensures) c.loop-at-test.true))
 
 pub loop-at-preserved : goal.loop-at-preserved
-loop-at-preserved c = first_more (decodes_at c.args.words.now) c.loop-at.at c.loop-at.invariant (sym c.in-ok-check-word.ensures)
+loop-at-preserved c = first_more (decodes_at c.args.words.now) c.loop-at.at c.loop-at.invariant (sym c.in_ok-check_word.ensures)
 
 pub returns : goal.returns
 returns c =
     let ws = c.args.words.now in
-    sym (then-on _ _ _ (sym c.in-ok-check-length.ensures) (first_all (decodes_at ws) c.loop-at.at (length ws) c.loop-at.invariant c.loop-at-test.false c.loop-at.auto.at-end))
+    sym (then-on _ _ _ (sym c.in_ok-check_length.ensures) (first_all (decodes_at ws) c.loop-at.at (length ws) c.loop-at.invariant c.loop-at-test.false c.loop-at.auto.at-end))

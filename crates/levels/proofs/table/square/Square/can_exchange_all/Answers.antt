@@ -9,7 +9,7 @@ pub returns-then-not-can-exchange : goal.returns-then-not-can-exchange
 returns-then-not-can-exchange c = sym (every_stop _ c.loop-b.b _ (sym c.if-not-can-exchange.ensures) c.loop-b-test.true)
 
 pub loop-b-preserved : goal.loop-b-preserved
-loop-b-preserved c = every_more _ _ c.loop-b.invariant (sym c.if-not-can-exchange.ensures)
+loop-b-preserved c = every_more _ _ c.loop-b.invariant (sym c.if-not-can_exchange.ensures)
 
 pub returns : goal.returns
 returns c = sym (every_all _ _ _ c.loop-b.invariant c.loop-b-test.false c.loop-b.auto.b-end)

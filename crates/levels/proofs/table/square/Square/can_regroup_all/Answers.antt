@@ -9,7 +9,7 @@ pub returns-then-not-can-regroup : goal.returns-then-not-can-regroup
 returns-then-not-can-regroup c = sym (every_stop _ c.loop-c.c _ (sym c.if-not-can-regroup.ensures) c.loop-c-test.true)
 
 pub loop-c-preserved : goal.loop-c-preserved
-loop-c-preserved c = every_more _ _ c.loop-c.invariant (sym c.if-not-can-regroup.ensures)
+loop-c-preserved c = every_more _ _ c.loop-c.invariant (sym c.if-not-can_regroup.ensures)
 
 pub returns : goal.returns
 returns c = sym (every_all _ _ _ c.loop-c.invariant c.loop-c-test.false c.loop-c.auto.c-end)

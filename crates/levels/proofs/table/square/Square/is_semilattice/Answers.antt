@@ -9,7 +9,7 @@ pub returns-then-not-can-repeat : goal.returns-then-not-can-repeat
 returns-then-not-can-repeat c = sym (every_stop _ c.loop-a.a _ (sym c.if-not-can-repeat.ensures) c.loop-a-test.true)
 
 pub loop-a-preserved : goal.loop-a-preserved
-loop-a-preserved c = every_more _ _ c.loop-a.invariant (sym c.if-not-can-repeat.ensures)
+loop-a-preserved c = every_more _ _ c.loop-a.invariant (sym c.if-not-can_repeat.ensures)
 
 pub returns : goal.returns
 returns c = sym (every_all _ _ _ c.loop-a.invariant c.loop-a-test.false c.loop-a.auto.a-end)
