@@ -52,7 +52,8 @@ impl Instruction {
             Instruction::Store { mode, r } => r < 32 && !mode.writes_back(r),
             Instruction::LoadDisplaced { q, d, .. } => q < 64 && d < 32,
             Instruction::StoreDisplaced { q, r, .. } => q < 64 && r < 32,
-            Instruction::Rjmp { k } | Instruction::Rcall { k } => fits_in(2048, k),
+            Instruction::Rjmp { k } => fits_in(2048, k),
+            Instruction::Rcall { k } => fits_in(2048, k),
             Instruction::Branch { k, .. } => fits_in(64, k),
             Instruction::Ret | Instruction::Clc | Instruction::Nop => true,
         }

@@ -4,10 +4,10 @@ use Rattle.text.specs.Lines.{lines_of, after_line}
 use Rattle.text.proofs.Cutting.{lines_some, lines_none, line_shorter}
 use Rattle.text.proofs.cursors.first_line.Goals as goal
 
-pub returns-then-is-empty : goal.returns-then-is-empty
-returns-then-is-empty c =
+pub returns-then-is_empty : goal.returns-then-is_empty
+returns-then-is_empty c =
     let bs = c.args.bytes.now in
-    let none : length bs ≡ 0 = true-eqb _ 0 c.if-is-empty.ensures in
+    let none : length bs ≡ 0 = true-eqb _ 0 c.if-is_empty.ensures in
     let empty = nil_from_length bs none in
     ((lines_none bs none, lines_none bs none), empty ∙ sym (ap after_line empty))
 

@@ -9,14 +9,14 @@ use Rattle.levels.proofs.table.Table.fill.Goals as goal
 pub padded-requires : goal.padded-requires
 padded-requires c = omega (arith, mul-le c.args.levels c.args.levels 16 16 c.if-levels-gt16.false c.if-levels-gt16.false)
 
-pub invariant-of-self : goal.invariant-of-self
-invariant-of-self c =
-    ((omega arith, omega arith), (ap (semilattice c.args.levels) (read_alike c.padded.result c.args.bytes.now c.args.levels c.padded.ensures) ∙ sym c.if-not-is-semilattice.ensures, tt))
+pub invariant_of-self : goal.invariant_of-self
+invariant_of-self c =
+    record { size = (omega arith, omega arith); sound = ap (semilattice c.args.levels) (read_alike c.padded.result c.args.bytes.now c.args.levels c.padded.ensures) ∙ sym c.if-not-is_semilattice.ensures }
 
-pub returns-then-not-is-semilattice : goal.returns-then-not-is-semilattice
-returns-then-not-is-semilattice c = record {
+pub returns-then-not-is_semilattice : goal.returns-then-not-is_semilattice
+returns-then-not-is_semilattice c = record {
   answer = search rules;
-  exact = (λ e. absurd (clash e), λ h. c.if-not-is-semilattice.ensures ∙ laws_test c.args.levels (join_in c.args.bytes.now c.args.levels) h.1);
+  exact = (λ e. absurd (clash e), λ h. c.if-not-is_semilattice.ensures ∙ laws_test c.args.levels (join_in c.args.bytes.now c.args.levels) h.1);
   filled = search rules;
   unchanged = search rules;
 }

@@ -7,20 +7,20 @@ use Rattle.words.proofs.listing.Listing.check.Goals as goal
 pub loop-at-init : goal.loop-at-init
 loop-at-init c = first_none (decodes_at c.args.words.now)
 
-pub check-word-requires : goal.check-word-requires
-check-word-requires c =
-    let few : length c.args.words.now ≤ 1024 = length_few c.args.words.now (sym c.in-ok-check-length.ensures) in
+pub check_word-requires : goal.check_word-requires
+check_word-requires c =
+    let few : length c.args.words.now ≤ 1024 = length_few c.args.words.now (sym c.in_ok-check_length.ensures) in
     (c.loop-at-test.true, omega (arith, c.loop-at-test.true))
 
-pub returns-in-err-check-length : goal.returns-in-err-check-length
-returns-in-err-check-length c =
-    says_err word_refusal c.from-residual.result _ c.from-residual.ensures.1 ∙ sym (then-stop _ _ _ (sym c.in-err-check-length.ensures))
+pub returns-in_err-check_length : goal.returns-in_err-check_length
+returns-in_err-check_length c =
+    says_err word_refusal c.from_residual.result _ c.from_residual.ensures.1 ∙ sym (then-stop _ _ _ (sym c.in_err-check_length.ensures))
 
-pub returns-in-err-check-word : goal.returns-in-err-check-word
-returns-in-err-check-word c =
+pub returns-in_err-check_word : goal.returns-in_err-check_word
+returns-in_err-check_word c =
     let ws = c.args.words.now in
-    says_err word_refusal c.from-residual-in-err-check-word.result _ c.from-residual-in-err-check-word.ensures.1
-    ∙ sym (then-on _ _ _ (sym c.in-ok-check-length.ensures) (first_stop (decodes_at ws) c.loop-at.at (length ws) _ c.loop-at.invariant (sym c.in-err-check-word.ensures) c.loop-at-test.true))
+    says_err word_refusal c.from_residual-in_err-check_word.result _ c.from_residual-in_err-check_word.ensures.1
+    ∙ sym (then-on _ _ _ (sym c.in_ok-check_length.ensures) (first_stop (decodes_at ws) c.loop-at.at (length ws) _ c.loop-at.invariant (sym c.in_err-check_word.ensures) c.loop-at-test.true))
 
 pub loop-at-preserved : goal.loop-at-preserved
 loop-at-preserved c = first_more (decodes_at c.args.words.now) c.loop-at.at c.loop-at.invariant (sym c.in_ok-check_word.ensures)
