@@ -32,9 +32,9 @@ module _ (m : Meaning) (ws rows : List ℕ) where
 pub returns : goal.returns
 returns g c =
     let m = g.O.Order.meaning c.args.order.now in
-    let e = c.find-fault.ensures in
+    let e = c.find_fault.ensures in
     record {
       answer = e;
-      accepts = accepts m c.args.words.now c.args.rows.now c.find-fault.result e;
-      hides = hides m c.args.words.now c.args.rows.now (g.met.O.Order.lawful c.args.order.now) c.find-fault.result e;
+      accepts = accepts m c.args.words.now c.args.rows.now c.find_fault.result e;
+      hides = hides m c.args.words.now c.args.rows.now (g.met.O.Order.lawful c.args.order.now) c.find_fault.result e;
     }

@@ -8,7 +8,7 @@ use Rattle.routine.proofs.files.read_lines.Goals as goal
 pub loop-line-preserved : goal.loop-line-preserved
 loop-line-preserved c =
     let split = c.in-Some.ensures.lines in
-    let step = lines_more (c.loop-line.count + 1) (lines_of (file_left c.loop-line.lines)) (draft_of c.loop-line.routine) _ _ split _ c.in-default-read-line.ensures in
+    let step = lines_more (c.loop-line.count + 1) (lines_of (file_left c.loop-line.lines)) (draft_of c.loop-line.routine) _ _ split _ c.in_default-read_line.ensures in
     (sym step ∙ c.loop-line.invariant.0, omega (arith, ap length split), omega (arith, c.in-Some.ensures.shorter refl))
 
 pub returns-in-Err : goal.returns-in-Err

@@ -11,5 +11,5 @@ loop-token-preserved c =
     let left = tokens_of (line_left c.loop-token.ahead) in
     let rest = tokens_of (line_left c.token.new.self) in
     let unnamed : is_some (kind_of c.in-Some.token.now) ≡ false = search rules in
-    let step = bytes_more items left c.in-Some.token.now rest c.in-Some.ensures.tokens unnamed _ c.in-ok-byte-of.ensures in
-    (ap (λ l. read_on l rest) c.in-ok-push.ensures.items ∙ sym step ∙ c.loop-token.invariant.0, refl)
+    let step = bytes_more items left c.in-Some.token.now rest c.in-Some.ensures.tokens unnamed _ c.in_ok-byte_of.ensures in
+    (ap (λ l. read_on l rest) c.in_ok-push.ensures.items ∙ sym step ∙ c.loop-token.invariant.0, refl)

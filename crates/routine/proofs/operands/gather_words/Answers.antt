@@ -14,5 +14,5 @@ loop-token-preserved c =
     let items = vec_items c.loop-token.words in
     let left = tokens_of (line_left c.loop-token.line) in
     let rest = tokens_of (line_left c.token.new.self) in
-    let step = gather_more word_of left items _ rest _ c.in-Some.ensures.tokens c.in-ok-word-of.ensures in
-    ap (λ l. appended l (gathered word_of rest)) c.in-ok-push.ensures.items ∙ sym step ∙ c.loop-token.invariant
+    let step = gather_more word_of left items _ rest _ c.in-Some.ensures.tokens c.in_ok-word_of.ensures in
+    ap (λ l. appended l (gathered word_of rest)) c.in_ok-push.ensures.items ∙ sym step ∙ c.loop-token.invariant

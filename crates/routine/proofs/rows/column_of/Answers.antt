@@ -6,9 +6,9 @@ pub returns-in-Some : goal.returns-in-Some
 unfolding column_by_name
 returns-in-Some c = search rules
 
-pub returns-in-default-register-digits : goal.returns-in-default-register-digits
+pub returns-in_default-register_digits : goal.returns-in_default-register_digits
 unfolding column_by_name
-returns-in-default-register-digits c = search rules
+returns-in_default-register_digits c = search rules
 
 pub returns-in-Ok : goal.returns-in-Ok
 unfolding column_by_name

@@ -2,17 +2,17 @@ use Rattle.std.proofs.Common.{rules}
 use Rattle.routine.specs.Rows.{entry_of}
 use Rattle.routine.proofs.rows.entry_of.Goals as goal
 
-pub returns-in-default : goal.returns-in-default
+pub returns-in_default : goal.returns-in_default
 unfolding entry_of
-returns-in-default c = search rules
+returns-in_default c = search rules
 
-pub returns-in-err-column : goal.returns-in-err-column
+pub returns-in_err-column : goal.returns-in_err-column
 unfolding entry_of
-returns-in-err-column c = search rules
+returns-in_err-column c = search rules
 
-pub returns-in-err-value : goal.returns-in-err-value
+pub returns-in_err-value : goal.returns-in_err-value
 unfolding entry_of
-returns-in-err-value c = search rules
+returns-in_err-value c = search rules
 
 pub returns : goal.returns
 unfolding entry_of

@@ -14,5 +14,5 @@ loop-token-preserved c =
     let items = vec_items c.loop-token.entries in
     let left = tokens_of (line_left c.loop-token.line) in
     let rest = tokens_of (line_left c.token.new.self) in
-    let step = gather_more entry_of left items _ rest _ c.in-Some.ensures.tokens c.in-ok-entry-of.ensures in
-    ap (λ l. appended l (gathered entry_of rest)) c.in-ok-push.ensures.items ∙ sym step ∙ c.loop-token.invariant
+    let step = gather_more entry_of left items _ rest _ c.in-Some.ensures.tokens c.in_ok-entry_of.ensures in
+    ap (λ l. appended l (gathered entry_of rest)) c.in_ok-push.ensures.items ∙ sym step ∙ c.loop-token.invariant

@@ -8,7 +8,7 @@ loop-cell-preserved c =
     let entries = c.args.entries.now in
     let index = c.loop-cell.cell-index in
     let step = at_drop_more (λ es. written_at c.args.start es (vec_items c.loop-cell.rows)) entries index _ c.loop-cell-test.true in
-    ap (written_at c.args.start (drop (index + 1) entries)) c.write-entry.ensures ∙ sym step ∙ c.loop-cell.invariant
+    ap (written_at c.args.start (drop (index + 1) entries)) c.write_entry.ensures ∙ sym step ∙ c.loop-cell.invariant
 
 pub returns : goal.returns
 returns c =

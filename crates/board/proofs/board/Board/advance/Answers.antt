@@ -21,6 +21,6 @@ loop-ending-preserved c =
     let b' = c.loop-ending.self in
     let same = c.loop-ending.invariant.1 in
     let u = state_of c.step.new.self in (
-      (λ t e r. c.loop-ending.invariant.0 t e (run_more (words_of b) (words_of b') c.args.limit (state_of b') u t e same.words c.in-default.ensures.state r)),
+      (λ t e r. c.loop-ending.invariant.0 t e (run_more (words_of b) (words_of b') c.args.limit (state_of b') u t e same.words c.in_default.ensures.state r)),
       record { words = c.step.ensures.same.words ∙ same.words; bytes = c.step.ensures.same.bytes ∙ same.bytes },
     )

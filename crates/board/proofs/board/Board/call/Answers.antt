@@ -14,7 +14,7 @@ returns c =
     let o : leb 16 (length (held_of b)) ≡ false = lt-leb 16 (length (held_of b)) (omega (arith, k)) in
     let h : ltb c.args.limit (b.count + c.args.cycles) ≡ false = search rules in
     record {
-      state = c.land.ensures.state ∙ called (length (words_of b)) c.args.limit b.at c.args.to c.args.cycles b.count _ _ (held_of b) (core_of b.chip) h o (pushed b.depth c.return-address-address.result b.returns l ∙ ap (λ v. v ∷ held_of b) c.return-address-address.ensures) (search rules);
+      state = c.land.ensures.state ∙ called (length (words_of b)) c.args.limit b.at c.args.to c.args.cycles b.count _ _ (held_of b) (core_of b.chip) h o (pushed b.depth c.return_address-address.result b.returns l ∙ ap (λ v. v ∷ held_of b) c.return_address-address.ensures) (search rules);
       same = search rules;
       onward = search rules;
     }

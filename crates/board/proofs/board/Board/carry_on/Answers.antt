@@ -6,6 +6,6 @@ pub returns : goal.returns
 returns c =
     let b = c.args.self.now in
     record {
-      state = ran (words_of b) c.args.limit b.phase _ (state_of b) (state_of c.advance-ending.new.self) c.advance-ending.result c.in-Loading.is c.left-in-self.ensures c.advance-ending.ensures.state;
+      state = ran (words_of b) c.args.limit b.phase _ (state_of b) (state_of c.advance-ending.new.self) c.advance-ending.result c.in-Loading.is c.left_in-self.ensures c.advance-ending.ensures.state;
       same = record { words = c.advance-ending.ensures.same.words; bytes = c.advance-ending.ensures.same.bytes };
     }

@@ -8,7 +8,7 @@ pub returns : goal.returns
 returns c =
     let b = c.args.self.now in
     record {
-      state = c.carry-on.ensures.state;
-      same = c.carry-on.ensures.same;
+      state = c.carry_on.ensures.state;
+      same = c.carry_on.ensures.same;
       counts = counts (avr (words_of b)) (λ a. positive a (instruction_of (words_of b) a)) c.args.limit (state_of b);
     }

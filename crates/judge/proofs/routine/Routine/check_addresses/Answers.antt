@@ -6,10 +6,10 @@ use Rattle.judge.proofs.routine.Routine.check_addresses.Goals as goal
 pub loop-at-init : goal.loop-at-init
 loop-at-init g c = first_none _
 
-pub returns-in-err-check-address : goal.returns-in-err-check-address
-returns-in-err-check-address g c =
-    says_err flow_refusal c.from-residual.result _ c.from-residual.ensures.1
-    ∙ sym (first_stop _ c.loop-at.at _ _ c.loop-at.invariant (sym c.in-err-check-address.ensures) (omega arith))
+pub returns-in_err-check_address : goal.returns-in_err-check_address
+returns-in_err-check_address g c =
+    says_err flow_refusal c.from_residual.result _ c.from_residual.ensures.1
+    ∙ sym (first_stop _ c.loop-at.at _ _ c.loop-at.invariant (sym c.in_err-check_address.ensures) (omega arith))
 
 pub loop-at-preserved : goal.loop-at-preserved
-loop-at-preserved g c = first_more _ _ c.loop-at.invariant (sym c.in-ok-check-address.ensures)
+loop-at-preserved g c = first_more _ _ c.loop-at.invariant (sym c.in_ok-check_address.ensures)

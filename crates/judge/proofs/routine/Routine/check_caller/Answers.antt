@@ -13,7 +13,7 @@ returns-then-callees-from g c =
     let same : c.function-function.result ≡ (seen routine).function at = cc in
     let called : callee_of ((chip routine).kind c.args.caller) ≡ c.function-function.result = cc in
     only_made _ _ _ (is_call _ _ c.function-function.result c.function-function.type-inv same called)
-    (c.check-edge.ensures ∙ ap (λ (b : ℕ). edge_rule (g.O.Order.meaning c.args.order.now) (chip routine) (seen routine) at (b + 1) c.args.cycles) c.from-then-callees-from.ensures)
+    (c.check_edge.ensures ∙ ap (λ (b : ℕ). edge_rule (g.O.Order.meaning c.args.order.now) (chip routine) (seen routine) at (b + 1) c.args.cycles) c.from-then-callees-from.ensures)
 
 pub returns-else-callees-from : goal.returns-else-callees-from
 returns-else-callees-from g c =

@@ -6,13 +6,13 @@ use Rattle.judge.proofs.routine.Routine.check_rows.Goals as goal
 pub loop-row-init : goal.loop-row-init
 loop-row-init g c = first_none _
 
-pub returns-in-err-check-row : goal.returns-in-err-check-row
-returns-in-err-check-row g c =
-    says_err row_refusal c.from-residual.result _ c.from-residual.ensures.1
-    ∙ sym (first_stop _ c.loop-row.row _ _ c.loop-row.invariant (sym c.in-err-check-row.ensures) (omega arith))
+pub returns-in_err-check_row : goal.returns-in_err-check_row
+returns-in_err-check_row g c =
+    says_err row_refusal c.from_residual.result _ c.from_residual.ensures.1
+    ∙ sym (first_stop _ c.loop-row.row _ _ c.loop-row.invariant (sym c.in_err-check_row.ensures) (omega arith))
 
 pub loop-row-preserved : goal.loop-row-preserved
-loop-row-preserved g c = first_more _ _ c.loop-row.invariant (sym c.in-ok-check-row.ensures)
+loop-row-preserved g c = first_more _ _ c.loop-row.invariant (sym c.in_ok-check_row.ensures)
 
-pub returns-in-ok-check-row : goal.returns-in-ok-check-row
-returns-in-ok-check-row g c = sym (first_all _ _ _ (first_more _ _ c.loop-row.invariant (sym c.in-ok-check-row.ensures)) (omega arith) (omega arith))
+pub returns-in_ok-check_row : goal.returns-in_ok-check_row
+returns-in_ok-check_row g c = sym (first_all _ _ _ (first_more _ _ c.loop-row.invariant (sym c.in_ok-check_row.ensures)) (omega arith) (omega arith))
