@@ -1,5 +1,5 @@
 -- A place that no row of the table writes keeps what it holds, and sizes are kept.
-use Rattle.std.proofs.Common.{◌≡◌, ℕ, ◌+◌, ◌*◌, ◌/◌, ◌%◌, ◌<◌, ◌≤◌, Bool, true, false, cond, ◌&&◌, eqb, ltb, List, [], ◌∷◌, length, get_or, set, Some, None, sym, refl, ap, ◌∙◌, arith, length-set}
+use Rattle.std.proofs.Common.{◌≡◌, ℕ, ◌+◌, true, false, eqb, List, [], ◌∷◌, length, set, None, refl, ◌∙◌, length-set}
 use borrow.Author.Tests.{eqb-false}
 use Rattle.words.specs.declared.instruction.BinaryOp.{BinaryOp}
 use Rattle.words.specs.declared.instruction.BinaryOp.TheVariants as binary
@@ -11,10 +11,10 @@ use Rattle.words.specs.declared.instruction.Instruction.{Instruction}
 use Rattle.words.specs.declared.instruction.Instruction.TheVariants.{Binary, Immediate, Wide, Movw, Unary, Load, Store, LoadDisplaced, StoreDisplaced, Rjmp, Rcall, Branch, Ret, Clc, Nop}
 use Rattle.alu.specs.declared.output.ByteOutput.{ByteOutput}
 use Rattle.alu.specs.declared.output.WordOutput.{WordOutput}
-use Rattle.alu.specs.Arithmetic.{counterpart, unary_output, wide_output, product_of}
-use Rattle.avr.specs.Core.{Core, core, reg, pair_of, with_pair}
-use Rattle.avr.specs.Effects.{stored, compared, stored_pair, binary_result, binary_effect, movw_effect, pointer_pair, one_up, one_down, used_at, write_back, effect_of}
-use Rattle.avr.specs.Table.{holds_of, row, flags_only, binary_rows, unary_rows, pair_rows, back_rows, rows_of, lookup, origins_of}
+use Rattle.alu.specs.Arithmetic.{counterpart}
+use Rattle.avr.specs.Core.{Core, reg}
+use Rattle.avr.specs.Effects.{stored, compared, stored_pair, binary_result, binary_effect, movw_effect, one_up, one_down, write_back, effect_of}
+use Rattle.avr.specs.Table.{holds_of, row, flags_only, binary_rows, unary_rows, back_rows, rows_of, origins_of}
 use Rattle.avr.specs.Chip.{fine_core}
 use Rattle.avr.proofs.Places.{by_place, set_off, pair_off, pair_long}
 use Rattle.avr.proofs.Rows.{EachRow, absent}

@@ -1,5 +1,5 @@
 -- What each instruction writes comes from its sources alone, row by row of the table.
-use Rattle.std.proofs.Common.{◌≡◌, ℕ, ◌+◌, ◌*◌, ◌/◌, ◌%◌, ◌<◌, ◌≤◌, Bool, true, false, cond, ◌&&◌, ◌||◌, eqb, ltb, List, [], ◌∷◌, length, get_or, set, Some, None, sym, refl, ap, ◌∙◌, ap₂, arith, length-set, ne_eqb}
+use Rattle.std.proofs.Common.{◌≡◌, ℕ, ◌+◌, ◌*◌, ◌/◌, ◌%◌, ◌<◌, Bool, true, false, eqb, List, [], ◌∷◌, length, get_or, set, Some, sym, refl, ap, ◌∙◌, ap₂, arith, length-set, ne_eqb}
 use lib.Bits.{bit_and, bit_or, bit_xor}
 use Rattle.std.proofs.lemmas.Bool.{or_parts}
 use Rattle.words.specs.declared.instruction.BinaryOp.{BinaryOp}
@@ -19,13 +19,13 @@ use Rattle.words.specs.Decode.{in_pair, pair_written_back}
 use Rattle.words.specs.Operands.{Operands}
 use Rattle.alu.specs.declared.output.ByteOutput.{ByteOutput}
 use Rattle.alu.specs.declared.output.WordOutput.{WordOutput}
-use Rattle.alu.specs.Arithmetic.{bit, sum_of, difference_of, logic_of, binary_output, counterpart, unary_output, wide_output, product_of}
-use Rattle.avr.specs.Core.{Core, core, reg, pair_of, with_pair}
-use Rattle.avr.specs.Effects.{stored, compared, stored_pair, binary_result, binary_effect, movw_effect, pointer_pair, base_pair, one_up, one_down, used_at, write_back, load_effect, store_effect, displaced_at, effect_of, flag_of, agrees, binary_diverts, diverts_of}
-use Rattle.avr.specs.Table.{holds_of, Row, row, with_flags, with_zero, flags_only, binary_rows, unary_rows, pair_rows, back_rows, load_row, store_row, rows_of, lookup, origins_of, flag_place, binary_deciders, deciders_of}
+use Rattle.alu.specs.Arithmetic.{bit, sum_of, difference_of, logic_of, counterpart, unary_output, wide_output, product_of}
+use Rattle.avr.specs.Core.{Core, reg, pair_of, with_pair}
+use Rattle.avr.specs.Effects.{stored, compared, stored_pair, binary_effect, movw_effect, pointer_pair, base_pair, one_up, one_down, used_at, write_back, effect_of, flag_of, agrees, binary_diverts, diverts_of}
+use Rattle.avr.specs.Table.{holds_of, row, with_flags, with_zero, flags_only, binary_rows, unary_rows, pair_rows, back_rows, rows_of, origins_of, flag_place, binary_deciders, deciders_of}
 use Rattle.avr.specs.Chip.{fine_core}
 use Rattle.avr.specs.Exact.{Same}
-use Rattle.avr.proofs.Places.{by_place, reg_same, reg_holds, carry_same, zero_same, set_at, set_off, set_either, pair_low, pair_high, pair_off, pair_long, wide, long}
+use Rattle.avr.proofs.Places.{reg_same, reg_holds, carry_same, zero_same, set_at, set_off, pair_low, pair_high, pair_off, wide}
 use Rattle.avr.proofs.Rows.{EachRow, found}
 
 pointer_in : (m : Mode) → pointer_pair m + 1 < 32

@@ -1,5 +1,5 @@
 -- Rows of the table, as lists of them.
-use Rattle.std.proofs.Common.{◌≡◌, ℕ, Bool, true, false, cond, eqb, List, [], ◌∷◌, Some, None, Option, sym, refl, ap, ◌∙◌, arith, eqb-true}
+use Rattle.std.proofs.Common.{◌≡◌, ℕ, Bool, true, false, cond, eqb, List, [], ◌∷◌, Some, None, refl, arith, eqb-true}
 use Rattle.avr.specs.Table.{Row, lookup}
 
 -- P of each row

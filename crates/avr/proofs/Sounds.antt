@@ -1,5 +1,5 @@
 -- The chip is a sound machine: its table can be trusted.
-use Rattle.std.proofs.Common.{◌≡◌, ℕ, ◌+◌, ◌<◌, ◌≤◌, Bool, true, false, cond, eqb, ltb, List, [], ◌∷◌, length, get_or, set, replicate, is_some, Some, None, Option, unwrap_or, sym, refl, ap, ◌∙◌, arith, length-set, ltb-true, eq-eqb, ne_eqb}
+use Rattle.std.proofs.Common.{◌≡◌, ℕ, ◌<◌, Bool, true, false, cond, eqb, List, [], get_or, set, is_some, Some, None, Option, unwrap_or, sym, refl, ap, ◌∙◌, arith, length-set, ltb-true, eq-eqb, ne_eqb}
 use lib.ListN.{length-replicate}
 use Rattle.std.proofs.lemmas.Bool.{and_from}
 use Rattle.words.specs.declared.instruction.BinaryOp.{BinaryOp}
@@ -18,12 +18,11 @@ use Rattle.words.proofs.Operands.{operands}
 use Rattle.machine.specs.Machine.{Kind, plain, forks, calls, rets, Positive, Sound}
 use Rattle.avr.specs.declared.location.Location.{Location}
 use Rattle.avr.specs.declared.location.Location.TheVariants as location
-use Rattle.avr.specs.Core.{Core, reg}
-use Rattle.avr.specs.Effects.{effect_of, diverts_of}
+use Rattle.avr.specs.Core.{Core}
 use Rattle.avr.specs.Table.{holds_of, origins_of, deciders_of}
 use Rattle.avr.specs.Chip.{instruction_of, kind_by, kind_of, fine_core, put_of, get_of, place_of, valid_of, avr}
-use Rattle.avr.specs.Exact.{Same, Exact, TableExact}
-use Rattle.avr.proofs.Places.{by_place, reg_same, carry_same, zero_same, set_off, set_either, wide, long}
+use Rattle.avr.specs.Exact.{TableExact}
+use Rattle.avr.proofs.Places.{by_place, reg_same, carry_same, zero_same, set_off, set_either, wide}
 use Rattle.avr.proofs.Locals.{local, decided}
 use Rattle.avr.proofs.Kept.{kept, fine_effect}
 

@@ -1,5 +1,5 @@
 -- The chip as a machine: a routine's words, and everything that they do. Assumes nothing.
-use Rattle.std.specs.Prelude.{ℕ, Bool, true, false, ◌&&◌, List, [], length, replicate, is_some, Some, None, Option, ◌==◌, nat_lt, slice_index, slice_set}
+use Rattle.std.specs.Prelude.{ℕ, Bool, true, false, ◌&&◌, List, [], length, replicate, is_some, ◌==◌, nat_lt, slice_index, slice_set}
 use Rattle.std.specs.Option.{unwrap_or}
 use Rattle.words.specs.declared.instruction.Instruction.{Instruction}
 use Rattle.words.specs.declared.instruction.Instruction.TheVariants.{Nop}

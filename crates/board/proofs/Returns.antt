@@ -1,5 +1,5 @@
 -- Returns kept in slots, newest first.
-use Rattle.std.proofs.Common.{◌≡◌, ℕ, zero, suc, ◌+◌, ◌-◌, ◌<◌, ◌≤◌, List, [], ◌∷◌, length, get_or, set, refl, ap, ◌∙◌, ap₂, arith, get_or-set_other, get_or-set_same}
+use Rattle.std.proofs.Common.{◌≡◌, ℕ, zero, suc, ◌+◌, ◌-◌, ◌<◌, ◌≤◌, List, ◌∷◌, length, get_or, set, refl, ap, ap₂, arith, get_or-set_other, get_or-set_same}
 use Rattle.board.specs.States.{newest}
 
 newest_below : (d i v : ℕ) (rs : List ℕ) → d ≤ i → newest d (set rs i v) ≡ newest d rs

@@ -1,5 +1,4 @@
 -- What a chip stands for. Assumes nothing.
-use Rattle.std.specs.Prelude.{◌≡◌, length}
 use Rattle.avr.specs.Core.{Core, core}
 use Rattle.board.specs.declared.chip.Chip.{Chip}
 

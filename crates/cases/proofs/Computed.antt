@@ -1,16 +1,15 @@
 -- The rows of the table, computed.
-use Rattle.std.proofs.Common.{◌≡◌, ℕ, zero, suc, ◌+◌, ◌<◌, Bool, true, false, ◌&&◌, eqb, List, [], ◌∷◌, ◌++◌, refl, arith, eqb-true}
+use Rattle.std.proofs.Common.{◌≡◌, ℕ, zero, suc, ◌<◌, Bool, true, false, ◌&&◌, eqb, List, [], ◌∷◌, ◌++◌, refl, arith, eqb-true}
 use borrow.Author.Tests.{eqb-false}
 use Rattle.std.proofs.lemmas.Bool.{and_parts}
 use Rattle.verdicts.specs.Verdict.{first}
 use Rattle.words.specs.Decode.{decode_of}
-use Rattle.machine.specs.declared.phase.Ending.{Ending}
 use Rattle.machine.specs.declared.phase.Ending.TheVariants as ending
 use Rattle.machine.specs.Run.{run_for}
 use Rattle.machine.specs.Calls.{run, put, ends, does, fresh, Answer, done, refused, byte}
 use Rattle.avr.specs.declared.location.Location.TheVariants.{Register}
 use Rattle.avr.specs.Chip.{avr}
-use Rattle.cases.specs.Cases.{Case, Holds, All, word_cases, value_cases, run_cases, judge_cases, table, balanced, CasesStand}
+use Rattle.cases.specs.Cases.{Case, All, word_cases, value_cases, run_cases, judge_cases, balanced, CasesStand}
 
 words_hold : All word_cases
 unfolding decode_of first

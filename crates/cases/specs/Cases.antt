@@ -1,5 +1,5 @@
 -- Worked examples, as one table. Each row says what some words, a board or the judge come to. Assumes nothing.
-use Rattle.std.specs.Prelude.{◌≡◌, ℕ, ◌<◌, Bool, true, false, List, [], ◌∷◌, ◌++◌, replicate, pos, negsuc, Some, None, Option, slice_index, slice_set}
+use Rattle.std.specs.Prelude.{◌≡◌, ℕ, ◌<◌, Bool, true, false, List, [], ◌∷◌, ◌++◌, replicate, negsuc, Some, None, Option, slice_index, slice_set}
 use Rattle.verdicts.specs.Verdict.{Verdict, fine, refused, refusal}
 use Rattle.words.specs.declared.instruction.BinaryOp.TheVariants as binary
 use Rattle.words.specs.declared.instruction.ImmediateOp.TheVariants as immediate
@@ -17,7 +17,7 @@ use Rattle.machine.specs.Calls.{run, put, ends, does, fresh}
 use Rattle.avr.specs.declared.location.Location.TheVariants.{Register}
 use Rattle.avr.specs.Core.{Core, core}
 use Rattle.avr.specs.Effects.{effect_of}
-use Rattle.avr.specs.Chip.{avr, blank_core}
+use Rattle.avr.specs.Chip.{avr}
 use Rattle.levels.specs.Order.{Meaning}
 use Rattle.levels.specs.Chains.{chain}
 use Rattle.judge.specs.Judgement.{judgement_of}

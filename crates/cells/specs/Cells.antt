@@ -15,7 +15,6 @@ use Rattle.avr.specs.Table.{carry_place, zero_place}
 use Rattle.avr.specs.Chip.{kind_of}
 use Rattle.cells.specs.declared.cell.Test.{Test}
 use Rattle.cells.specs.declared.cell.Test.TheVariants as test
-use Rattle.cells.specs.declared.cell.Leave.{Leave}
 use Rattle.cells.specs.declared.cell.Leave.TheVariants as leave
 use Rattle.cells.specs.declared.cell.Way.{Way}
 use Rattle.cells.specs.declared.cell.Way.TheVariants as way

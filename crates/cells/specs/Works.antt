@@ -22,11 +22,9 @@ use Rattle.cells.specs.declared.work.Lone.{Lone}
 use Rattle.cells.specs.declared.work.Lone.TheVariants as lone
 use Rattle.cells.specs.declared.work.ByteWork.{ByteWork}
 use Rattle.cells.specs.declared.work.ByteWork.TheVariants as byte
-use Rattle.cells.specs.declared.work.Step.{Step}
 use Rattle.cells.specs.declared.work.Step.TheVariants.{Up, Down}
 use Rattle.cells.specs.declared.work.Reach.{Reach}
 use Rattle.cells.specs.declared.work.Reach.TheVariants.{Plain, Displaced, Stepped}
-use Rattle.cells.specs.declared.work.Access.{Access}
 use Rattle.cells.specs.declared.work.Quiet.{Quiet}
 use Rattle.cells.specs.declared.work.Quiet.TheVariants as quiets
 use Rattle.cells.specs.declared.work.PairWork.{PairWork}

@@ -1,6 +1,6 @@
 -- The address of a word that does not decode is one of the words. Assumes nothing.
-use Rattle.std.proofs.Common.{◌≡◌, ℕ, ◌<◌, Bool, true, false, ◌&&◌, leb, List, [], ◌∷◌, length, get_or, is_some, sym, refl, ◌∙◌, arith}
-use Rattle.verdicts.specs.Verdict.{Verdict, refused, refusal, rule, and_then, first}
+use Rattle.std.proofs.Common.{◌≡◌, ℕ, ◌<◌, Bool, true, false, ◌&&◌, leb, List, [], ◌∷◌, length, get_or, is_some, arith}
+use Rattle.verdicts.specs.Verdict.{Verdict, refused, refusal, rule, and_then}
 use Rattle.verdicts.proofs.Firsts.{first_named}
 use Rattle.words.specs.Decode.{decode_of}
 use Rattle.words.specs.Legal.{decodes_at, legal_of}

@@ -1,12 +1,11 @@
 -- The run as a function and the run as a chain of steps are one.
-use Rattle.std.proofs.Common.{◌≡◌, ℕ, zero, suc, ◌+◌, ◌-◌, ◌<◌, ◌≤◌, Bool, true, false, cond, ltb, leb, List, [], ◌∷◌, length, sym, refl, ap, ◌∙◌, subst, arith, ltb-false}
-use Rattle.machine.specs.declared.phase.Stop.{Stop}
+use Rattle.std.proofs.Common.{◌≡◌, ℕ, zero, suc, ◌+◌, ◌-◌, ◌<◌, ◌≤◌, Bool, true, false, cond, ltb, leb, List, [], ◌∷◌, length, refl, ap, ◌∙◌, subst, arith, ltb-false}
 use Rattle.machine.specs.declared.phase.Stop.TheVariants.{Deep, Off}
 use Rattle.machine.specs.declared.phase.Ending.{Ending}
 use Rattle.machine.specs.declared.phase.Ending.TheVariants as ending
 use Rattle.machine.specs.Machine.{Machine, Kind, plain, forks, calls, rets, Positive}
 use Rattle.machine.specs.Run.{State, state, Step, moves, stops, landed, paid, step_at, step, Runs, last, more, Finish, run_for, run_of, cycles_of}
-use Rattle.machine.specs.Laws.{total, Carries, cost_at, last_costs, costs, Counts, CountsFor, CountsStand}
+use Rattle.machine.specs.Laws.{total, Carries, cost_at, last_costs, costs, CountsFor}
 
 -- a step that goes on takes cycles, within the limit
 abbrev pub Grows : {B : Type 0} → ℕ → ℕ → Step B → Type 0

@@ -1,7 +1,6 @@
 -- The calls on a board, and what each does in each phase. Assumes nothing.
-use Rattle.std.specs.Prelude.{ℕ, Bool, true, false, cond, []}
+use Rattle.std.specs.Prelude.{ℕ, cond, []}
 use Rattle.verdicts.specs.Verdict.{Refusal, refusal}
-use Rattle.machine.specs.declared.phase.Stop.{Stop}
 use Rattle.machine.specs.declared.phase.Phase.{Phase}
 use Rattle.machine.specs.declared.phase.Phase.TheVariants as phase
 use Rattle.machine.specs.declared.phase.Ending.{Ending}

@@ -1,11 +1,10 @@
 -- What a run comes to, in words that do not follow its steps. Assumes nothing.
-use Rattle.std.specs.Prelude.{◌≡◌, ℕ, zero, suc, ◌+◌, ◌≤◌, Bool, List, [], ◌∷◌}
-use Rattle.machine.specs.declared.phase.Stop.{Stop}
+use Rattle.std.specs.Prelude.{◌≡◌, ℕ, ◌+◌, List, [], ◌∷◌}
 use Rattle.machine.specs.declared.phase.Stop.TheVariants.{Deep, Off}
 use Rattle.machine.specs.declared.phase.Ending.{Ending}
 use Rattle.machine.specs.declared.phase.Ending.TheVariants as ending
 use Rattle.machine.specs.Machine.{Machine, Positive}
-use Rattle.machine.specs.Run.{State, step, moves, stops, Runs, last, more, cycles_of, run_of}
+use Rattle.machine.specs.Run.{State, Runs, last, more, cycles_of, run_of}
 
 -- the sum of some numbers
 abbrev pub total : List ℕ → ℕ

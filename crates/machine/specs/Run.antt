@@ -1,6 +1,5 @@
 -- Runs of a machine up to a limit of cycles. Assumes nothing.
-use Rattle.std.specs.Prelude.{◌≡◌, ℕ, zero, suc, ◌+◌, Bool, true, false, cond, List, [], ◌∷◌, length, Some, None, Option, nat_le, nat_lt}
-use Rattle.machine.specs.declared.phase.Stop.{Stop}
+use Rattle.std.specs.Prelude.{◌≡◌, ℕ, zero, suc, ◌+◌, Bool, false, cond, List, [], ◌∷◌, length, Some, None, Option, nat_le, nat_lt}
 use Rattle.machine.specs.declared.phase.Stop.TheVariants.{Deep, Off}
 use Rattle.machine.specs.declared.phase.Ending.{Ending}
 use Rattle.machine.specs.declared.phase.Ending.TheVariants as ending

@@ -8,7 +8,7 @@ use Rattle.levels.specs.Order.{Meaning}
 use Rattle.machine.specs.Machine.{Machine, Kind, plain, forks, calls, rets}
 use Rattle.secrecy.specs.Rows.{Rows, rows_of, cell, places, coded, columns, region_column}
 use Rattle.secrecy.specs.Flow.{deciding, stake}
-use Rattle.secrecy.specs.Rules.{inside, outside, local, bare_outside, joins_in_listing, function_in_listing, begins_at_zero, bare_finish, shaped, keeps_function, bounded, leaves, stays, length_rule, held_rule, shape_rule, inside_rule, bounds_rule, deciding_rule, time_rule, flow_rule, region_rule, edge_rule, return_rule, finish_rule, edges_from, address_rule, address_rules, edge_rules, row_rule, row_rules, rules_of}
+use Rattle.secrecy.specs.Rules.{outside, local, bare_outside, joins_in_listing, function_in_listing, begins_at_zero, bare_finish, shaped, keeps_function, bounded, leaves, stays, length_rule, held_rule, shape_rule, inside_rule, bounds_rule, deciding_rule, time_rule, flow_rule, region_rule, edge_rule, return_rule, finish_rule, edges_from, address_rule, address_rules, edge_rules, row_rule, row_rules, rules_of}
 use Rattle.secrecy.specs.Accepted.{Shape, Leaves, Stays, Flows, Edge, WordRule, Accepts, RulesFor}
 use Rattle.secrecy.proofs.Says.{Says, says_like, says_rule, says_then, says_first, says_if, says_calls, decides_unless, decides_at_zero, decides_above}
 

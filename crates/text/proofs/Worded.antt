@@ -1,10 +1,10 @@
 -- The laws of tokens. Assumes nothing.
-use Rattle.std.proofs.Common.{◌≡◌, ℕ, ◌+◌, Bool, true, false, cond, not, List, [], ◌∷◌, ◌++◌, length, get_or, take, drop, sym, refl, ap, ◌∙◌, subst, arith}
+use Rattle.std.proofs.Common.{◌≡◌, ℕ, Bool, true, false, cond, not, List, [], ◌∷◌, ◌++◌, length, get_or, take, drop, sym, refl, ap, ◌∙◌, subst, arith}
 use Rattle.std.specs.List.{prefix_len, AllByRecursion as All}
 use Rattle.std.proofs.lemmas.List.{take_at, drop_at}
 use Rattle.std.proofs.lemmas.Bool.{not-true, or_parts, or_from}
 use Rattle.text.specs.Bytes.{newline, blank, semicolon, solid}
-use Rattle.text.specs.Cuts.{front, behind, onto}
+use Rattle.text.specs.Cuts.{onto}
 use Rattle.text.specs.Tokens.{tokens_of}
 use Rattle.text.specs.Laws.{Without, Token, spaced, TokensStand}
 use Rattle.text.proofs.Cutting.{tokens_at, taken}

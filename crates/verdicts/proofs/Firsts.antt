@@ -1,9 +1,9 @@
 -- Lemmas on checks that follow one another, for the loops and the `?` of the code that makes them.
-use Rattle.std.proofs.Common.{◌≡◌, ℕ, zero, suc, ◌+◌, ◌<◌, ◌≤◌, Bool, true, false, List, IsErrAnd, Result, sym, refl, ap, ◌∙◌, inl, inr, ⊎_elim, add-one, arith}
+use Rattle.std.proofs.Common.{◌≡◌, ℕ, zero, suc, ◌+◌, ◌<◌, ◌≤◌, Bool, true, false, List, IsErrAnd, Result, refl, ◌∙◌, ⊎_elim, add-one, arith}
 use Rattle.std.proofs.lemmas.Bool.{cases_lt}
 use Rattle.std.proofs.lemmas.Result.{err_from_is_err_and}
-use Rattle.verdicts.specs.Verdict.{Verdict, Refusal, fine, refused, refusal, and_then, rule, first, says}
-use Rattle.verdicts.specs.Laws.{Keeps, BreaksFirst, FirstBroken, FirstBrokenStands}
+use Rattle.verdicts.specs.Verdict.{Verdict, Refusal, fine, refused, and_then, rule, first, says}
+use Rattle.verdicts.specs.Laws.{Keeps, BreaksFirst, FirstBrokenStands}
 
 pub and_fine : (v w : Verdict) → and_then v w ≡ fine → (v ≡ fine) × (w ≡ fine)
 and_fine fine w e = (refl, e)

@@ -1,9 +1,8 @@
 -- Words that pass the check are such as a listing has.
-use Rattle.std.proofs.Common.{◌≡◌, ℕ, ◌<◌, ◌≤◌, true, leb, List, [], ◌∷◌, length, get_or, is_some, leb-true}
+use Rattle.std.proofs.Common.{◌≡◌, ℕ, ◌≤◌, true, leb, List, [], ◌∷◌, length, leb-true}
 use Rattle.std.proofs.lemmas.Bool.{and_parts}
 use Rattle.verdicts.specs.Verdict.{fine, first}
 use Rattle.verdicts.proofs.Firsts.{and_fine, rule_fine, first_each}
-use Rattle.words.specs.Decode.{decode_of}
 use Rattle.words.specs.Legal.{length_of, legal_of, decodes_at, Decodes}
 
 -- a legal length

@@ -1,5 +1,5 @@
 -- What a word decodes to has operands in range.
-use Rattle.std.proofs.Common.{◌≡◌, ℕ, ◌+◌, ◌*◌, ◌<◌, ◌≤◌, Bool, true, false, cond, not, ◌&&◌, eqb, List, [], ◌∷◌, IfSome, Some, None, Option, sym, refl, subst, arith}
+use Rattle.std.proofs.Common.{◌≡◌, ℕ, ◌+◌, ◌*◌, Bool, true, false, cond, not, ◌&&◌, eqb, List, [], ◌∷◌, IfSome, Some, None, Option, refl, subst, arith}
 use Rattle.std.specs.Option.{option_map, option_or}
 use Rattle.words.specs.declared.instruction.Mode.{Mode}
 use Rattle.words.specs.declared.instruction.WideOp.{WideOp}
@@ -10,7 +10,7 @@ use Rattle.words.specs.declared.instruction.Instruction.{Instruction}
 use Rattle.words.specs.declared.instruction.Instruction.TheVariants.{Binary, Immediate, Wide, Movw, Unary, Load, Store, LoadDisplaced, StoreDisplaced, Rjmp, Rcall, Branch, Ret, Clc, Nop}
 use Rattle.words.specs.Fields.{bits, signed}
 use Rattle.words.specs.Codes.{binary_named, immediate_named, wide_named, unary_named, mode_named, base_named, flag_named}
-use Rattle.words.specs.Decode.{only, d_of, displacement, in_pair, pair_written_back, binary_of, immediate_of, wide_of, movw_of, unary_of, pointers_of, pointer_of, displaced_of, jump_of, branch_of, fixed_of, first_of, readings, decode_of}
+use Rattle.words.specs.Decode.{only, d_of, displacement, in_pair, pair_written_back, binary_of, immediate_of, wide_of, movw_of, unary_of, pointers_of, pointer_of, displaced_of, jump_of, branch_of, first_of, readings, decode_of}
 use Rattle.words.specs.Operands.{Operands}
 
 -- the instruction, if there is one, has operands in range

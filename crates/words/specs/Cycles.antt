@@ -1,8 +1,7 @@
 -- What each instruction costs in clock cycles. Assumes nothing.
-use Rattle.std.specs.Prelude.{ℕ, Bool, true, false, cond, List, [], ◌∷◌, ◌==◌, slice_index}
+use Rattle.std.specs.Prelude.{ℕ, Bool, cond, List, [], ◌∷◌, ◌==◌, slice_index}
 use Rattle.words.specs.declared.instruction.BinaryOp.{BinaryOp}
 use Rattle.words.specs.declared.instruction.BinaryOp.TheVariants as binary
-use Rattle.words.specs.declared.instruction.Mode.{Mode}
 use Rattle.words.specs.declared.instruction.Instruction.{Instruction}
 use Rattle.words.specs.declared.instruction.Instruction.TheVariants.{Binary, Immediate, Wide, Movw, Unary, Load, Store, LoadDisplaced, StoreDisplaced, Rjmp, Rcall, Branch, Ret, Clc, Nop}
 use Rattle.words.specs.Codes.{mode_code}

@@ -1,5 +1,5 @@
 -- What a 16-bit word decodes to, kind by kind, from the manual's encodings. Assumes nothing.
-use Rattle.std.specs.Prelude.{ℕ, ◌+◌, ◌-◌, ◌*◌, ◌/◌, ◌%◌, ◌^◌, ◌<◌, Bool, true, false, cond, not, ◌&&◌, ◌||◌, List, [], ◌∷◌, Some, None, Option, ◌==◌}
+use Rattle.std.specs.Prelude.{ℕ, ◌+◌, ◌*◌, Bool, true, false, cond, not, ◌&&◌, ◌||◌, List, [], ◌∷◌, Some, None, Option, ◌==◌}
 use Rattle.std.specs.Option.{option_map, option_or}
 use Rattle.words.specs.declared.instruction.Mode.{Mode}
 use Rattle.words.specs.declared.instruction.Mode.TheVariants as mode

@@ -1,5 +1,5 @@
 -- Parts of a 16-bit word, and signed distances. Assumes nothing.
-use Rattle.std.specs.Prelude.{ℕ, ◌+◌, ◌-◌, ◌*◌, ◌/◌, ◌%◌, ◌^◌, Bool, true, false, cond, ℤ, pos, negsuc, nat_lt}
+use Rattle.std.specs.Prelude.{ℕ, ◌-◌, ◌*◌, ◌/◌, ◌%◌, ◌^◌, Bool, cond, ℤ, pos, negsuc, nat_lt}
 
 -- the number in the `count` bits of a word that begin at bit `low`
 abbrev pub bits : ℕ → ℕ → ℕ → ℕ

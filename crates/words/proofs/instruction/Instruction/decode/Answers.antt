@@ -1,5 +1,5 @@
-use Rattle.std.proofs.Common.{◌≡◌, sym, ◌∙◌}
-use Rattle.words.specs.Decode.{decode_of, first_of, readings}
+use Rattle.std.proofs.Common.{sym}
+use Rattle.words.specs.Decode.{decode_of}
 use Rattle.words.proofs.Readings.{first_two, first_one}
 use Rattle.words.proofs.instruction.Instruction.decode.Goals as goal
 

@@ -1,4 +1,4 @@
-use Rattle.std.proofs.Common.{◌≡◌, ◌<◌, ◌≤◌, length, sym, ◌∙◌, arith}
+use Rattle.std.proofs.Common.{◌≤◌, length, sym, ◌∙◌, arith}
 use Rattle.verdicts.proofs.Firsts.{says_err, then-stop, then-on, first_none, first_more, first_stop, first_all}
 use Rattle.words.specs.Legal.{decodes_at, word_refusal}
 use Rattle.words.proofs.Legality.{length_few}
