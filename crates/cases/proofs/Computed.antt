@@ -9,16 +9,16 @@ use Rattle.machine.specs.Run.{run_for}
 use Rattle.machine.specs.Calls.{run, put, ends, does, fresh, Answer, done, refused, byte}
 use Rattle.avr.specs.declared.location.Location.TheVariants.{Register}
 use Rattle.avr.specs.Chip.{avr}
-use Rattle.cases.specs.Cases.{Case, All, word_cases, value_cases, run_cases, judge_cases, balanced, CasesStand}
+use Rattle.cases.specs.Cases.{Case, AllHold, word_cases, value_cases, run_cases, judge_cases, balanced, CasesStand}
 
-words_hold : All word_cases
+words_hold : AllHold word_cases
 unfolding decode_of first
 words_hold = (refl, (refl, (refl, (refl, (refl, (refl, tt))))))
 
-values_hold : All value_cases
+values_hold : AllHold value_cases
 values_hold = (((refl, tt), (refl, refl)), (((refl, tt), (refl, refl)), (((refl, (refl, tt)), (refl, refl)), (((refl, tt), (refl, refl)), (((refl, (refl, tt)), (refl, refl)), tt)))))
 
-runs_hold : All run_cases
+runs_hold : AllHold run_cases
 unfolding decode_of run_for
 runs_hold = (refl, (refl, tt))
 
@@ -62,11 +62,11 @@ always_seven : every (λ v. ended 7 (answer_to v)) 256 ≡ true
 unfolding every ended decode_of run_for
 always_seven = refl
 
-judges_hold : All judge_cases
+judges_hold : AllHold judge_cases
 unfolding decode_of first
 judges_hold = (refl, ((λ v l. ended_so 7 (answer_to v) (each (λ n. ended 7 (answer_to n)) 256 always_seven v l)), (refl, (refl, (refl, tt)))))
 
-append : (cs ds : List Case) → All cs → All ds → All (cs ++ ds)
+append : (cs ds : List Case) → AllHold cs → AllHold ds → AllHold (cs ++ ds)
 append [] ds h k = k
 append (c ∷ cs) ds h k = (h.0, append cs ds h.1 k)
 

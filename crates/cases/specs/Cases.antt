@@ -66,9 +66,9 @@ Holds (always ws d e) = (v : ℕ) → v < 256 → (does (avr ws) (run 1000) (doe
 Holds (judged ws rows m v) = judgement_of m ws rows ≡ v
 Holds (unlisted ws v) = legal_of ws ≡ v
 
-abbrev pub All : List Case → Type 0
-All [] = Unit {0}
-All (c ∷ cs) = Holds c × All cs
+abbrev pub AllHold : List Case → Type 0
+AllHold [] = Unit {0}
+AllHold (c ∷ cs) = Holds c × AllHold cs
 
 -- words: constants, registers and a backward branch; a load that steps its pointer, and one that would step its own register
 abbrev pub word_cases : List Case
@@ -149,4 +149,4 @@ table = word_cases ++ (value_cases ++ (run_cases ++ judge_cases))
 
 -- every row of the table holds
 abbrev pub CasesStand : Type 0
-CasesStand = All table
+CasesStand = AllHold table

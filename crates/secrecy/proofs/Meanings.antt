@@ -244,14 +244,14 @@ module _ {B V W : Type 0} (m : Meaning) (M : Machine B V W) (rows : List ℕ) wh
   R = rows_of M.size rows
 
   -- all rules, in their order
-  abbrev All : Type 0
-  All =
+  abbrev AllRules : Type 0
+  AllRules =
       (length rows ≡ (M.size + 1) * columns)
       × (((row : ℕ) → row < M.size + 1 → Coded m M.size rows row × Shape M.size R row)
       × (((a : ℕ) → a < M.size → Addressed m M R a)
       × ((a : ℕ) → a < M.size → PassesAll m M R a (M.kind a))))
 
-  all_say : Says (rules_of m M rows) All
+  all_say : Says (rules_of m M rows) AllRules
   all_say =
       says_then (length_rule M.size rows) _ (says_rule _ _ _ (Decides-eqb (length rows) ((M.size + 1) * columns)))
       (says_then (row_rules m M.size rows) _ (says_first _ (row_rule m M.size rows) (M.size + 1) (row_says m M.size rows))
@@ -259,7 +259,7 @@ module _ {B V W : Type 0} (m : Meaning) (M : Machine B V W) (rows : List ℕ) wh
       (says_first _ (address_rule m M R) M.size (λ a l. address_says m M R a))
       (says_first _ (λ a. edges_from m M R a (M.kind a)) M.size (λ a l. edges_say m M R a (M.kind a)))))
 
-  accepts_from : All → Accepts m M rows
+  accepts_from : AllRules → Accepts m M rows
   accepts_from h =
       let row = h.1.0 in
       let address = h.1.1.0 in
@@ -274,7 +274,7 @@ module _ {B V W : Type 0} (m : Meaning) (M : Machine B V W) (rows : List ℕ) wh
         },
       )
 
-  accepts_all : Accepts m M rows → All
+  accepts_all : Accepts m M rows → AllRules
   accepts_all h =
       let r = h.1 in
       let word = λ (a : ℕ) (l : a < M.size). word_parts m M R a (M.kind a) (r.words a l) in (

@@ -1,6 +1,6 @@
 -- The longest front whose bytes pass a test. Assumes nothing.
 use Rattle.std.proofs.Common.{◌≡◌, ℕ, suc, ◌+◌, ◌<◌, Bool, true, false, eqb, List, [], ◌∷◌, ◌++◌, length, take, drop, refl, ap, ◌∙◌, one-add, arith, length-drop, length-take}
-use Rattle.std.specs.List.{prefix_len, AllByRecursion as All}
+use Rattle.std.specs.List.{prefix_len, AllByRecursion}
 use Rattle.std.proofs.lemmas.List.{take_at, drop_at}
 use Rattle.std.proofs.lemmas.List.Sums.{prefix_len-le-length}
 use Rattle.std.proofs.lemmas.Bool.{eq-eqb, ne_eqb}
@@ -54,19 +54,19 @@ length_front test bs = rw length-take (omega (arith, prefix_len-le-length test b
 
 -- a list whose bytes all pass, and what follows it
 module _ (test : ℕ → Bool) where
-  pub leading_append : (xs ys : List ℕ) → All (λ b. test b ≡ true) xs → prefix_len test (xs ++ ys) ≡ length xs + prefix_len test ys
+  pub leading_append : (xs ys : List ℕ) → AllByRecursion (λ b. test b ≡ true) xs → prefix_len test (xs ++ ys) ≡ length xs + prefix_len test ys
   leading_append [] ys h = omega arith
   leading_append (x ∷ xs) ys h = omega (arith, leading_yes test x (xs ++ ys) h.0, leading_append xs ys h.1)
 
-  leading_all : (xs : List ℕ) → All (λ b. test b ≡ true) xs → prefix_len test xs ≡ length xs
+  leading_all : (xs : List ℕ) → AllByRecursion (λ b. test b ≡ true) xs → prefix_len test xs ≡ length xs
   leading_all [] h = refl
   leading_all (x ∷ xs) h = leading_yes test x xs h.0 ∙ ap suc (leading_all xs h.1)
 
-  pub whole_all : (xs : List ℕ) → All (λ b. test b ≡ true) xs → whole test xs ≡ true
+  pub whole_all : (xs : List ℕ) → AllByRecursion (λ b. test b ≡ true) xs → whole test xs ≡ true
   whole_all xs h = eq-eqb _ 0 (length-drop (prefix_len test xs) xs ∙ omega (arith, leading_all xs h))
 
   -- up to a byte that fails
-  module _ (xs : List ℕ) (y : ℕ) (ys : List ℕ) (all : All (λ b. test b ≡ true) xs) (fails : test y ≡ false) where
+  module _ (xs : List ℕ) (y : ℕ) (ys : List ℕ) (all : AllByRecursion (λ b. test b ≡ true) xs) (fails : test y ≡ false) where
     leading_upto : prefix_len test (xs ++ y ∷ ys) ≡ length xs
     leading_upto = omega (arith, leading_append xs (y ∷ ys) all, leading_no test y ys fails)
 

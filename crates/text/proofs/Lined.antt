@@ -1,6 +1,6 @@
 -- The laws of lines. Assumes nothing.
 use Rattle.std.proofs.Common.{◌≡◌, ℕ, Bool, true, false, cond, List, [], ◌∷◌, ◌++◌, sym, refl, ap, ◌∙◌, subst}
-use Rattle.std.specs.List.{AllByRecursion as All}
+use Rattle.std.specs.List.{AllByRecursion}
 use Rattle.std.proofs.lemmas.Bool.{eqb-true}
 use Rattle.text.specs.Bytes.{newline}
 use Rattle.text.specs.Cuts.{onto}
@@ -13,25 +13,25 @@ lines_at : (b : ℕ) (bs : List ℕ) (t : Bool) → newline b ≡ t → lines_of
 unfolding lines_of
 lines_at b bs t e = ap (λ t. cond t ([] ∷ lines_of bs) (onto b (lines_of bs))) e
 
-longer : (b : ℕ) (lines : List (List ℕ)) → newline b ≡ false → All (Without newline) lines → All (Without newline) (onto b lines)
+longer : (b : ℕ) (lines : List (List ℕ)) → newline b ≡ false → AllByRecursion (Without newline) lines → AllByRecursion (Without newline) (onto b lines)
 longer b [] e h = ((e, tt), tt)
 longer b (line ∷ lines) e h = ((e, h.0), h.1)
 
-each : (file : List ℕ) → All (Without newline) (lines_of file)
+each : (file : List ℕ) → AllByRecursion (Without newline) (lines_of file)
 unfolding lines_of
 each [] = tt
 each (b ∷ bs) = by (newline b) refl (each bs)
   where
-    by : (t : Bool) → newline b ≡ t → All (Without newline) (lines_of bs) → All (Without newline) (lines_of (b ∷ bs))
-    by true e h = subst (All (Without newline)) (sym (lines_at b bs true e)) (tt, h)
-    by false e h = subst (All (Without newline)) (sym (lines_at b bs false e)) (longer b (lines_of bs) e h)
+    by : (t : Bool) → newline b ≡ t → AllByRecursion (Without newline) (lines_of bs) → AllByRecursion (Without newline) (lines_of (b ∷ bs))
+    by true e h = subst (AllByRecursion (Without newline)) (sym (lines_at b bs true e)) (tt, h)
+    by false e h = subst (AllByRecursion (Without newline)) (sym (lines_at b bs false e)) (longer b (lines_of bs) e h)
 
 back_one : (line rest : List ℕ) → Without newline line → lines_of (line ++ 10 ∷ rest) ≡ line ∷ lines_of rest
 unfolding lines_of
 back_one [] rest h = refl
 back_one (b ∷ bs) rest h = lines_at b (bs ++ 10 ∷ rest) false h.0 ∙ ap (onto b) (back_one bs rest h.1)
 
-back : (lines : List (List ℕ)) → All (Without newline) lines → lines_of (written lines) ≡ lines
+back : (lines : List (List ℕ)) → AllByRecursion (Without newline) lines → lines_of (written lines) ≡ lines
 unfolding lines_of
 back [] h = refl
 back (line ∷ lines) h = back_one line (written lines) h.0 ∙ ap (λ ls. line ∷ ls) (back lines h.1)

@@ -4,7 +4,7 @@ use Rattle.std.specs.Bool.{then_some}
 use Rattle.std.specs.Str.Parse.{AllDigits, IsNumeral, digits_value, digits_value_after}
 use Rattle.std.specs.Char.{digit_value}
 use Rattle.std.specs.Fmt.{digit_glyph, digits_onto, digits}
-use Rattle.std.specs.List.{AllByRecursion as All}
+use Rattle.std.specs.List.{AllByRecursion}
 use Rattle.std.proofs.lemmas.Fmt.{decimal_is_IsNumeral}
 use Rattle.std.proofs.lemmas.List.{get_or_past}
 use Rattle.std.proofs.lemmas.Str.Parse.{digit_at}
@@ -18,7 +18,7 @@ use Rattle.text.specs.Numbers.{is_numeral, numeral, numeral_of, number_of}
 use Rattle.text.specs.Laws.{NumbersStand}
 use Rattle.text.proofs.Fronts.{whole_all}
 
-all_digits : (base : Base) (ds : List ℕ) → AllDigits (radix base) ds → All (λ b. is_of (Digit base) b ≡ true) ds
+all_digits : (base : Base) (ds : List ℕ) → AllDigits (radix base) ds → AllByRecursion (λ b. is_of (Digit base) b ≡ true) ds
 all_digits base [] h = tt
 all_digits base (d ∷ ds) h = (lt-ltb (digit_value d) (radix base) h.0, all_digits base ds h.1)
 

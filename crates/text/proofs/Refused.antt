@@ -1,6 +1,6 @@
 -- The laws of assignments and of the check of bytes. Assumes nothing.
 use Rattle.std.proofs.Common.{◌≡◌, ℕ, ◌+◌, true, false, not, List, ◌∷◌, ◌++◌, get_or, drop, Some, Err, count_by, refl, ap, ◌∙◌}
-use Rattle.std.specs.List.{AllByRecursion as All}
+use Rattle.std.specs.List.{AllByRecursion}
 use Rattle.std.proofs.ByRecursion.{All-weaker}
 use Rattle.std.proofs.lemmas.Bool.{cond-true, cond-false}
 use Rattle.text.specs.Bytes.{newline, equals, in_name, allowed}
@@ -8,7 +8,7 @@ use Rattle.text.specs.Cuts.{whole}
 use Rattle.text.specs.Laws.{Without, AssignmentsStand, ChecksStand}
 use Rattle.text.proofs.Fronts.{front_upto, behind_upto, whole_upto, whole_all}
 
-names : (bs : List ℕ) → Without equals bs → All (λ b. in_name b ≡ true) bs
+names : (bs : List ℕ) → Without equals bs → AllByRecursion (λ b. in_name b ≡ true) bs
 names bs h = All-weaker (λ b. equals b ≡ false) (λ b. in_name b ≡ true) (λ b e. ap not e) bs h
 
 pub assignments_law : AssignmentsStand

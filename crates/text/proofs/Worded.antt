@@ -1,6 +1,6 @@
 -- The laws of tokens. Assumes nothing.
 use Rattle.std.proofs.Common.{◌≡◌, ℕ, Bool, true, false, cond, not, List, [], ◌∷◌, ◌++◌, length, get_or, take, drop, sym, refl, ap, ◌∙◌, subst, arith}
-use Rattle.std.specs.List.{prefix_len, AllByRecursion as All}
+use Rattle.std.specs.List.{prefix_len, AllByRecursion}
 use Rattle.std.proofs.lemmas.List.{take_at, drop_at}
 use Rattle.std.proofs.lemmas.Bool.{not-true, or_parts, or_from}
 use Rattle.text.specs.Bytes.{newline, blank, semicolon, solid}
@@ -20,25 +20,25 @@ grows b token e p q r =
 alone : (b : ℕ) → solid b ≡ true → Token (b ∷ [])
 alone b e = grows b [] e tt tt tt
 
-joins : (b : ℕ) (tokens : List (List ℕ)) → solid b ≡ true → All Token tokens → All Token (onto b tokens)
+joins : (b : ℕ) (tokens : List (List ℕ)) → solid b ≡ true → AllByRecursion Token tokens → AllByRecursion Token (onto b tokens)
 joins b [] e h = (alone b e, tt)
 joins b (t ∷ ts) e h = (grows b t e h.0.blanks h.0.comments h.0.newlines, h.1)
 
-each : (line : List ℕ) → All Token (tokens_of line)
+each : (line : List ℕ) → AllByRecursion Token (tokens_of line)
 unfolding tokens_of
 each [] = tt
 each (b ∷ bs) = by (blank b) (solid b) refl refl (each bs)
   where
-    begun : (u : Bool) → solid b ≡ true → All Token (tokens_of bs) → All Token (cond u (onto b (tokens_of bs)) ((b ∷ []) ∷ tokens_of bs))
+    begun : (u : Bool) → solid b ≡ true → AllByRecursion Token (tokens_of bs) → AllByRecursion Token (cond u (onto b (tokens_of bs)) ((b ∷ []) ∷ tokens_of bs))
     begun true e h = joins b (tokens_of bs) e h
     begun false e h = (alone b e, h)
 
-    by : (s t : Bool) → blank b ≡ s → solid b ≡ t → All Token (tokens_of bs) → All Token (tokens_of (b ∷ bs))
-    by true t p q h = subst (All Token) (sym (tokens_at b bs true t p q)) h
-    by false true p q h = subst (All Token) (sym (tokens_at b bs false true p q)) (begun (solid (get_or bs 0 10)) q h)
-    by false false p q h = subst (All Token) (sym (tokens_at b bs false false p q)) tt
+    by : (s t : Bool) → blank b ≡ s → solid b ≡ t → AllByRecursion Token (tokens_of bs) → AllByRecursion Token (tokens_of (b ∷ bs))
+    by true t p q h = subst (AllByRecursion Token) (sym (tokens_at b bs true t p q)) h
+    by false true p q h = subst (AllByRecursion Token) (sym (tokens_at b bs false true p q)) (begun (solid (get_or bs 0 10)) q h)
+    by false false p q h = subst (AllByRecursion Token) (sym (tokens_at b bs false false p q)) tt
 
-solids : (token : List ℕ) → Without blank token → Without semicolon token → Without newline token → All (λ b. solid b ≡ true) token
+solids : (token : List ℕ) → Without blank token → Without semicolon token → Without newline token → AllByRecursion (λ b. solid b ≡ true) token
 solids [] p q r = tt
 solids (b ∷ bs) p q r =
     (ap not (or_from (blank b) _ p.0 (or_from (semicolon b) (newline b) q.0 r.0)), solids bs p.1 q.1 r.1)
@@ -48,7 +48,7 @@ space_first : (tokens : List (List ℕ)) → prefix_len solid (spaced tokens) �
 space_first [] = refl
 space_first (t ∷ ts) = refl
 
-back : (tokens : List (List ℕ)) → All Token tokens → tokens_of (spaced tokens) ≡ tokens
+back : (tokens : List (List ℕ)) → AllByRecursion Token tokens → tokens_of (spaced tokens) ≡ tokens
 unfolding tokens_of
 back [] h = refl
 back (t ∷ ts) h =

@@ -1,7 +1,7 @@
 -- What lines, tokens, numbers, assignments and the check of bytes come to, in words that do not follow the code. Assumes nothing.
 use Rattle.std.specs.Prelude.{◌≡◌, ℕ, ◌+◌, ◌^◌, ◌<◌, Bool, true, false, cond, List, [], ◌∷◌, ◌++◌, length, Some, None, Ok, Err, decimal, count_by}
 use Rattle.std.specs.Fmt.{digits}
-use Rattle.std.specs.List.{AllByRecursion as All}
+use Rattle.std.specs.List.{AllByRecursion}
 use Rattle.text.specs.Bytes.{newline, blank, semicolon, equals, allowed}
 use Rattle.text.specs.Lines.{lines_of}
 use Rattle.text.specs.Tokens.{tokens_of}
@@ -10,7 +10,7 @@ use Rattle.text.specs.Refusals.{checked, assigned}
 
 -- each byte fails a test
 abbrev pub Without : (ℕ → Bool) → List ℕ → Type 0
-Without test bs = All (λ b. test b ≡ false) bs
+Without test bs = AllByRecursion (λ b. test b ≡ false) bs
 
 -- lines written one below the other, each ended by byte 10
 abbrev pub written : List (List ℕ) → List ℕ
@@ -25,9 +25,9 @@ missing (b ∷ c ∷ bs) = missing (c ∷ bs)
 
 -- a file is its lines: none holds a newline; written again they are the file, its last line ended; and any lines come back
 pub record LinesStand : Type 0 where
-  pub each : (file : List ℕ) → All (Without newline) (lines_of file)
+  pub each : (file : List ℕ) → AllByRecursion (Without newline) (lines_of file)
   pub again : (file : List ℕ) → written (lines_of file) ≡ file ++ missing file
-  pub back : (lines : List (List ℕ)) → All (Without newline) lines → lines_of (written lines) ≡ lines
+  pub back : (lines : List (List ℕ)) → AllByRecursion (Without newline) lines → lines_of (written lines) ≡ lines
 
 -- what a token is
 pub record Token (token : List ℕ) : Type 0 where
@@ -43,8 +43,8 @@ spaced (token ∷ tokens) = 32 ∷ (token ++ spaced tokens)
 
 -- a line gives tokens only, any row of tokens comes back, and what follows a `;` adds none
 pub record TokensStand : Type 0 where
-  pub each : (line : List ℕ) → All Token (tokens_of line)
-  pub back : (tokens : List (List ℕ)) → All Token tokens → tokens_of (spaced tokens) ≡ tokens
+  pub each : (line : List ℕ) → AllByRecursion Token (tokens_of line)
+  pub back : (tokens : List (List ℕ)) → AllByRecursion Token tokens → tokens_of (spaced tokens) ≡ tokens
   pub comments : (line comment : List ℕ) → tokens_of (line ++ 59 ∷ comment) ≡ tokens_of line
 
 -- what is written of a number reads as that number: in decimal, and in hexadecimal with letters of either case after `0x` or `0X`
@@ -59,6 +59,6 @@ pub record AssignmentsStand : Type 0 where
 
 -- bytes that are all allowed pass, and of others the first that is not is refused, with one more than the newlines before it
 pub record ChecksStand : Type 0 where
-  pub fine : (bs : List ℕ) → All (λ b. allowed b ≡ true) bs → checked bs ≡ Ok tt
-  pub bad : (bs : List ℕ) (b : ℕ) (after : List ℕ) → All (λ c. allowed c ≡ true) bs → allowed b ≡ false →
+  pub fine : (bs : List ℕ) → AllByRecursion (λ b. allowed b ≡ true) bs → checked bs ≡ Ok tt
+  pub bad : (bs : List ℕ) (b : ℕ) (after : List ℕ) → AllByRecursion (λ c. allowed c ≡ true) bs → allowed b ≡ false →
       checked (bs ++ b ∷ after) ≡ Err (record { line = 1 + count_by newline bs; byte = b })
