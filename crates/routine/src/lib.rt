@@ -1,6 +1,6 @@
 //! The statements of a routine file, one a line, and the routine that they make.
 //!
-//! It may use the tokens of `text`, the layout of `rows`, the descriptions of `orders` and the locations of a chip. It carries nothing
+//! It may use the tokens of `text`, the layout of `row_layout`, the descriptions of `orders` and the locations of a chip. It carries nothing
 //! out and judges nothing: what a file asks for is for the program. docs/FORMAT.md has the rules in words.
 #![tactic(auto)]
 
@@ -19,7 +19,10 @@ pub use faults::{Fault, FileFault, Malformed};
 pub use files::read;
 pub use keywords::{Keyword, Kind};
 pub use laws::reading_stands;
+pub use orders::making::Made;
+pub use orders::written::{OrderText, SimpleText};
 pub use routines::{Routine, RowForm};
+pub use row_layout::Column;
 pub use rows::{Entry, ROW_WIDTH, RowName, read_row};
 pub use statements::{Statement, read_statement};
 pub use steps::Step;

@@ -9,7 +9,7 @@ returns-in-Some c =
     let read = c.in-Some.ensures in
     let word = c.args.word in
     record {
-      answer = c.encode.ensures ∙ inverse.encodes word (omega arith) c.in-Some.instruction (sym read) ∙ ap (option_map (λ i. word)) read;
+      answer = c.encode.ensures ∙ inverse.encodes word (omega arith) _ (sym read) ∙ ap (option_map (λ i. word)) read;
       inverse = inverse;
     }
 
