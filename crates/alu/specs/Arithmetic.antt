@@ -10,21 +10,32 @@ use Rattle.words.specs.declared.instruction.WideOp.{WideOp}
 use Rattle.words.specs.declared.instruction.WideOp.TheVariants as wide
 use Rattle.words.specs.declared.instruction.UnaryOp.{UnaryOp}
 use Rattle.words.specs.declared.instruction.UnaryOp.TheVariants as unary
-use Rattle.alu.specs.declared.output.ByteOutput.{ByteOutput}
-use Rattle.alu.specs.declared.output.WordOutput.{WordOutput}
+use Rattle.alu.specs.declared.output.Output.{Output}
+
+-- a byte and the flags
+abbrev pub ByteOutput : Type 0
+ByteOutput = Output ℕ
+
+-- a 16-bit number and the flags
+abbrev pub WordOutput : Type 0
+WordOutput = Output ℕ
 
 -- a flag as a number
 abbrev pub bit : Bool → ℕ
 bit true = 1
 bit false = 0
 
--- a byte with the flags C and Z
-abbrev pub output : ℕ → Bool → Bool → ByteOutput
+-- a value with the flags C and Z
+abbrev pub output : {V : Type 0} → V → Bool → Bool → Output V
 output v c z = record { value = v; carry = c; zero = z }
+
+-- a number with the carry; zero says that it is 0
+abbrev pub result_of : ℕ → Bool → Output ℕ
+result_of v c = output v c (eqb v 0)
 
 -- a + b + c
 abbrev pub sum_of : ℕ → ℕ → Bool → ByteOutput
-sum_of a b c = output ((a + b + bit c) % 256) (ltb 255 (a + b + bit c)) (eqb ((a + b + bit c) % 256) 0)
+sum_of a b c = result_of ((a + b + bit c) % 256) (ltb 255 (a + b + bit c))
 
 -- a - b - c, where zero is set only if `before` was
 abbrev pub difference_of : ℕ → ℕ → Bool → Bool → ByteOutput
@@ -32,7 +43,7 @@ difference_of a b c before = output ((256 + a - b - bit c) % 256) (ltb a (b + bi
 
 -- a result that keeps the carry
 abbrev pub logic_of : ℕ → Bool → ByteOutput
-logic_of v c = output v c (eqb v 0)
+logic_of v c = result_of v c
 
 -- what an operation on two bytes gives; cpse and mul give no byte of their own, and leave the first byte and the flags
 abbrev pub binary_output : BinaryOp → ℕ → ℕ → Bool → Bool → ByteOutput
@@ -61,19 +72,15 @@ counterpart immediate.Ldi = binary.Mov
 abbrev pub unary_output : UnaryOp → ℕ → Bool → ByteOutput
 unary_output unary.Neg a c = difference_of 0 a false true
 unary_output unary.Inc a c = logic_of ((a + 1) % 256) c
-unary_output unary.Lsr a c = output (a / 2) (eqb (a % 2) 1) (eqb (a / 2) 0)
-unary_output unary.Ror a c = output (128 * bit c + a / 2) (eqb (a % 2) 1) (eqb (128 * bit c + a / 2) 0)
+unary_output unary.Lsr a c = result_of (a / 2) (eqb (a % 2) 1)
+unary_output unary.Ror a c = result_of (128 * bit c + a / 2) (eqb (a % 2) 1)
 unary_output unary.Dec a c = logic_of ((a + 255) % 256) c
-
--- a 16-bit number with the carry; zero says that it is 0
-abbrev pub word_output : ℕ → Bool → WordOutput
-word_output v c = record { value = v; carry = c; zero = eqb v 0 }
 
 -- on 16 bits
 abbrev pub wide_output : WideOp → ℕ → ℕ → WordOutput
-wide_output wide.Adiw x k = word_output ((x + k) % 65536) (ltb 65535 (x + k))
-wide_output wide.Sbiw x k = word_output ((65536 + x - k) % 65536) (ltb x k)
+wide_output wide.Adiw x k = result_of ((x + k) % 65536) (ltb 65535 (x + k))
+wide_output wide.Sbiw x k = result_of ((65536 + x - k) % 65536) (ltb x k)
 
 -- the unsigned product, whose bit 15 is the carry
 abbrev pub product_of : ℕ → ℕ → WordOutput
-product_of a b = word_output (a * b) (leb 32768 (a * b))
+product_of a b = result_of (a * b) (leb 32768 (a * b))

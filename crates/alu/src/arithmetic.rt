@@ -1,8 +1,8 @@
 //! Values and flags of the operations.
-ghost use Rattle.std.specs.Prelude.{◌≡◌, ◌≤◌, ◌<◌};
-ghost use Rattle.alu.specs.Arithmetic.{sum_of, difference_of, logic_of, binary_output, counterpart as counterpart_of, unary_output, wide_output, product_of, word_output};
+ghost use Rattle.std.specs.Prelude.{◌≡◌, ◌≤◌, ◌<◌, ◌==◌, ℕ};
+ghost use Rattle.alu.specs.Arithmetic.{output as output_of, sum_of, difference_of, binary_output, counterpart as counterpart_of, unary_output, wide_output, product_of};
 
-use crate::output::{ByteOutput, WordOutput};
+use crate::output::{ByteOutput, Output, WordOutput};
 use words::instruction::{BinaryOp, ImmediateOp, UnaryOp, WideOp};
 
 /// The sum of two bytes and a carry.
@@ -10,12 +10,7 @@ pub fn sum(a: u8, b: u8, carry: bool) -> ByteOutput
     ensures { result ≡ sum_of a b carry }
 {
     let sum = u16::from(a) + u16::from(b) + u16::from(carry);
-    let value = (sum % 256) as u8;
-    ByteOutput {
-        value,
-        carry: sum > 255,
-        zero: value == 0,
-    }
+    output((sum % 256) as u8, sum > 255)
 }
 
 /// A byte less another and a borrow; zero is set only if `before` was.
@@ -24,20 +19,21 @@ pub fn difference(a: u8, b: u8, carry: bool, before: bool) -> ByteOutput
 {
     let difference = 256 + u16::from(a) - u16::from(b) - u16::from(carry);
     let value = (difference % 256) as u8;
-    ByteOutput {
+    Output {
         value,
         carry: difference < 256,
         zero: value == 0 && before,
     }
 }
 
-fn logic(value: u8, carry: bool) -> ByteOutput
-    ensures { result ≡ logic_of value carry }
+/// A value with the carry; zero says that it is 0.
+fn output<V: Copy + Into<u32>>(value: V, carry: bool) -> Output<V>
+    ensures { (n : ℕ) × V.converts value n × (result ≡ output_of value carry (n == 0)) }
 {
-    ByteOutput {
+    Output {
         value,
         carry,
-        zero: value == 0,
+        zero: value.into() == 0,
     }
 }
 
@@ -50,15 +46,15 @@ pub fn binary(op: BinaryOp, a: u8, b: u8, carry: bool, zero: bool) -> ByteOutput
         BinaryOp::Cp | BinaryOp::Sub => difference(a, b, false, true),
         BinaryOp::Add => sum(a, b, false),
         BinaryOp::Adc => sum(a, b, carry),
-        BinaryOp::And => logic(a & b, carry),
-        BinaryOp::Eor => logic(a ^ b, carry),
-        BinaryOp::Or => logic(a | b, carry),
-        BinaryOp::Mov => ByteOutput {
+        BinaryOp::And => output(a & b, carry),
+        BinaryOp::Eor => output(a ^ b, carry),
+        BinaryOp::Or => output(a | b, carry),
+        BinaryOp::Mov => Output {
             value: b,
             carry,
             zero,
         },
-        BinaryOp::Cpse | BinaryOp::Mul => ByteOutput {
+        BinaryOp::Cpse | BinaryOp::Mul => Output {
             value: a,
             carry,
             zero,
@@ -67,6 +63,7 @@ pub fn binary(op: BinaryOp, a: u8, b: u8, carry: bool, zero: bool) -> ByteOutput
 }
 
 /// The operation on two registers that does what this one does on a register and a constant.
+// Kept a function and no From: it converts nothing, and an impl would have to stand in words, which knows no arithmetic.
 pub fn counterpart(op: ImmediateOp) -> BinaryOp
     ensures { result ≡ counterpart_of op }
 {
@@ -85,26 +82,10 @@ pub fn unary(op: UnaryOp, a: u8, carry: bool) -> ByteOutput
 {
     match op {
         UnaryOp::Neg => difference(0, a, false, true),
-        UnaryOp::Inc => logic(a.wrapping_add(1), carry),
-        UnaryOp::Dec => logic(a.wrapping_sub(1), carry),
-        UnaryOp::Lsr => ByteOutput {
-            carry: a % 2 == 1,
-            ..logic(a / 2, carry)
-        },
-        UnaryOp::Ror => ByteOutput {
-            carry: a % 2 == 1,
-            ..logic(128 * u8::from(carry) + a / 2, carry)
-        },
-    }
-}
-
-fn word(value: u16, carry: bool) -> WordOutput
-    ensures { result ≡ word_output value carry }
-{
-    WordOutput {
-        value,
-        carry,
-        zero: value == 0,
+        UnaryOp::Inc => output(a.wrapping_add(1), carry),
+        UnaryOp::Dec => output(a.wrapping_sub(1), carry),
+        UnaryOp::Lsr => output(a / 2, a % 2 == 1),
+        UnaryOp::Ror => output(128 * u8::from(carry) + a / 2, a % 2 == 1),
     }
 }
 
@@ -114,8 +95,8 @@ pub fn wide(op: WideOp, x: u16, k: u8) -> WordOutput
 {
     let k = u16::from(k);
     match op {
-        WideOp::Adiw => word(x.wrapping_add(k), x > 65535 - k),
-        WideOp::Sbiw => word(x.wrapping_sub(k), x < k),
+        WideOp::Adiw => output(x.wrapping_add(k), x > 65535 - k),
+        WideOp::Sbiw => output(x.wrapping_sub(k), x < k),
     }
 }
 
@@ -124,5 +105,5 @@ pub fn product(a: u8, b: u8) -> WordOutput
     ensures { result ≡ product_of a b }
 {
     let product = u16::from(a) * u16::from(b);
-    word(product, product >= 32768)
+    output(product, product >= 32768)
 }

@@ -1,17 +1,16 @@
 //! What the arithmetic gives: a value and the flags.
 
-/// A byte and the flags.
+/// A value and the flags.
+// The flags are two fields and no struct of their own: the calls of this crate take and give them apart.
 #[derive(Clone, Copy)]
-pub struct ByteOutput {
-    pub value: u8,
+pub struct Output<V> {
+    pub value: V,
     pub carry: bool,
     pub zero: bool,
 }
 
+/// A byte and the flags.
+pub type ByteOutput = Output<u8>;
+
 /// A 16-bit number and the flags.
-#[derive(Clone, Copy)]
-pub struct WordOutput {
-    pub value: u16,
-    pub carry: bool,
-    pub zero: bool,
-}
+pub type WordOutput = Output<u16>;

@@ -9,9 +9,7 @@ use Rattle.words.specs.declared.instruction.Mode.{Mode}
 use Rattle.words.specs.declared.instruction.Mode.TheVariants as mode
 use Rattle.words.specs.declared.instruction.Instruction.{Instruction}
 use Rattle.words.specs.declared.instruction.Instruction.TheVariants.{Binary, Immediate, Wide, Movw, Unary, Load, Store, LoadDisplaced, StoreDisplaced, Rjmp, Rcall, Branch, Ret, Clc, Nop}
-use Rattle.alu.specs.declared.output.ByteOutput.{ByteOutput}
-use Rattle.alu.specs.declared.output.WordOutput.{WordOutput}
-use Rattle.alu.specs.Arithmetic.{counterpart}
+use Rattle.alu.specs.Arithmetic.{ByteOutput, WordOutput, counterpart}
 use Rattle.avr.specs.Core.{Core, reg}
 use Rattle.avr.specs.Effects.{stored, compared, stored_pair, binary_result, binary_effect, movw_effect, one_up, one_down, write_back, effect_of}
 use Rattle.avr.specs.Table.{holds_of, row, flags_only, binary_rows, unary_rows, back_rows, rows_of, origins_of}

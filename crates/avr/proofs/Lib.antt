@@ -3,3 +3,4 @@ pub mod Rows
 pub mod Locals
 pub mod Kept
 pub mod Sounds
+pub mod Made

@@ -17,9 +17,7 @@ use Rattle.words.specs.declared.instruction.Instruction.{Instruction}
 use Rattle.words.specs.declared.instruction.Instruction.TheVariants.{Binary, Immediate, Wide, Movw, Unary, Load, Store, LoadDisplaced, StoreDisplaced, Rjmp, Rcall, Branch, Ret, Clc, Nop}
 use Rattle.words.specs.Decode.{in_pair, pair_written_back}
 use Rattle.words.specs.Operands.{Operands}
-use Rattle.alu.specs.declared.output.ByteOutput.{ByteOutput}
-use Rattle.alu.specs.declared.output.WordOutput.{WordOutput}
-use Rattle.alu.specs.Arithmetic.{bit, sum_of, difference_of, logic_of, counterpart, unary_output, wide_output, product_of}
+use Rattle.alu.specs.Arithmetic.{ByteOutput, WordOutput, bit, sum_of, difference_of, logic_of, counterpart, unary_output, wide_output, product_of}
 use Rattle.avr.specs.Core.{Core, reg, pair_of, with_pair}
 use Rattle.avr.specs.Effects.{stored, compared, stored_pair, binary_effect, movw_effect, pointer_pair, base_pair, one_up, one_down, used_at, write_back, effect_of, flag_of, agrees, binary_diverts, diverts_of}
 use Rattle.avr.specs.Table.{holds_of, row, with_flags, with_zero, flags_only, binary_rows, unary_rows, pair_rows, back_rows, rows_of, origins_of, flag_place, binary_deciders, deciders_of}

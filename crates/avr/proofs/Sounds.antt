@@ -144,19 +144,19 @@ deciders_in (calls t c) = []
 deciders_in (rets c) = []
 
 fork_deciders : (r : Route) (i : Instruction) (qs : List ℕ) (b c b' c' : ℕ) → kind_by r i ≡ forks qs b c b' c' → deciders_of i ≡ qs
-fork_deciders (To b) i qs u v u' v' e = let z : ◌≡◌ {A = ℕ} 0 1 = cc in absurd (omega arith)
+fork_deciders (To b) i qs u v u' v' e = cc
 fork_deciders (Fork b b') i qs u v u' v' e = ap deciders_in e
-fork_deciders (Call t) i qs u v u' v' e = let z : ◌≡◌ {A = ℕ} 0 1 = cc in absurd (omega arith)
-fork_deciders Return i qs u v u' v' e = let z : ◌≡◌ {A = ℕ} 0 1 = cc in absurd (omega arith)
+fork_deciders (Call t) i qs u v u' v' e = cc
+fork_deciders Return i qs u v u' v' e = cc
 
 -- written by the table, or not
 written : (o : Option (List ℕ)) → is_some o ≡ true → o ≡ Some (unwrap_or o [])
-written None e = let z : ◌≡◌ {A = ℕ} 0 1 = cc in absurd (omega arith)
+written None e = cc
 written (Some qs) e = refl
 
 unwritten : (o : Option (List ℕ)) → is_some o ≡ false → o ≡ None
 unwritten None e = refl
-unwritten (Some qs) e = let z : ◌≡◌ {A = ℕ} 0 1 = cc in absurd (omega arith)
+unwritten (Some qs) e = cc
 
 fine_put : (w : Location) (n : ℕ) (x : Core) → fine_core x ≡ true → fine_core (put_of w n x) ≡ true
 fine_put (location.Register d) n x h = rw (length-set x.registers d n) h

@@ -10,9 +10,7 @@ use Rattle.words.specs.declared.instruction.Flag.{Flag}
 use Rattle.words.specs.declared.instruction.Flag.TheVariants as flag
 use Rattle.words.specs.declared.instruction.Instruction.{Instruction}
 use Rattle.words.specs.declared.instruction.Instruction.TheVariants.{Binary, Immediate, Wide, Movw, Unary, Load, Store, LoadDisplaced, StoreDisplaced, Rjmp, Rcall, Branch, Ret, Clc, Nop}
-use Rattle.alu.specs.declared.output.ByteOutput.{ByteOutput}
-use Rattle.alu.specs.declared.output.WordOutput.{WordOutput}
-use Rattle.alu.specs.Arithmetic.{binary_output, counterpart, unary_output, wide_output, product_of}
+use Rattle.alu.specs.Arithmetic.{ByteOutput, WordOutput, binary_output, counterpart, unary_output, wide_output, product_of}
 use Rattle.avr.specs.Core.{Core, core, reg, pair_of, with_pair}
 
 -- a result kept in a register, with its flags

@@ -1,11 +1,13 @@
 //! Short lists of places, as the rows of the table have them.
+ghost use Rattle.std.specs.Prelude.{◌≤◌};
 
-/// The places that something comes from.
+/// The places that something comes from, in order: at most four.
+// A list of its own and no `ArrayVec`, which is not copied.
 #[derive(Clone, Copy)]
-pub enum Sources {
-    Nothing,
-    One(u16),
-    Two(u16, u16),
-    Three(u16, u16, u16),
-    Four(u16, u16, u16, u16),
+pub struct Sources {
+    places: [u16; 4],
+    count: usize,
+    ghost few: { count ≤ 4 },
 }
+
+pub mod listing;

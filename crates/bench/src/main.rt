@@ -51,9 +51,10 @@ const ROUTINE: [u16; 33] = [
     0x9508, // ret
 ];
 
-/// How many rounds a short run makes, and a long one.
+/// How many rounds a short run makes.
 const SHORT: u16 = 100;
 
+/// How many rounds a long run makes.
 const LONG: u16 = 65535;
 
 /// How many instructions a run of so many rounds carries out: two besides the rounds, and 775 in each.
@@ -73,17 +74,16 @@ fn cycles_of(ending: Ending) -> u32 {
 /// Clears the board and makes one run of so many rounds: its cycles, and the byte that it leaves in register 18.
 fn play(board: &mut Board, rounds: u16) -> Result<(u32, u8), CallFault> {
     board.clear();
-    board.put(Location::Register(24), (rounds % 256) as u8)?;
-    board.put(Location::Register(25), (rounds / 256) as u8)?;
+    let [low, high] = rounds.to_le_bytes();
+    board.put(Location::Register(24), low)?;
+    board.put(Location::Register(25), high)?;
     let cycles = cycles_of(board.run(u32::MAX));
     Ok((cycles, board.read(Location::Register(18))?))
 }
 
 /// One short run.
 fn show(rt: &HostRuntime, board: &mut Board) -> anyhow::Result<()> {
-    let Ok((cycles, byte)) = play(board, SHORT) else {
-        return Err(anyhow!("a call was refused"));
-    };
+    let (cycles, byte) = play(board, SHORT).map_err(|_| anyhow!("a call was refused"))?;
     let carried_out = instructions(SHORT);
     println!(rt; "{carried_out} instructions, {cycles} cycles, register 18 holds {byte}")?;
     Ok(())
@@ -95,9 +95,7 @@ fn measure(rt: &HostRuntime, board: &mut Board, runs: u32) -> anyhow::Result<()>
     let mut cycles = 0u64;
     let mut last = 0;
     for _ in 0..runs {
-        let Ok((spent, byte)) = play(board, LONG) else {
-            return Err(anyhow!("a call was refused"));
-        };
+        let (spent, byte) = play(board, LONG).map_err(|_| anyhow!("a call was refused"))?;
         cycles = cycles.saturating_add(u64::from(spent));
         last = byte;
     }
@@ -111,20 +109,15 @@ fn measure(rt: &HostRuntime, board: &mut Board, runs: u32) -> anyhow::Result<()>
 
 /// How many long runs the program is asked for, if it is called with a number.
 fn runs_asked(rt: &HostRuntime) -> anyhow::Result<Option<u32>> {
-    let mut args = env::args(rt)?.skip(1);
-    match args.next() {
-        Some(word) => Ok(Some(word.as_str().parse::<u32>()?)),
-        None => Ok(None),
-    }
+    let word = env::args(rt)?.nth(1);
+    Ok(word.map(|word| word.as_str().parse()).transpose()?)
 }
 
 /// Makes the board and works it.
 fn bench(rt: &HostRuntime) -> anyhow::Result<()> {
     let mut memory = [0u8; 65536];
-    if Board::check(&ROUTINE, &memory).is_err() {
-        return Err(anyhow!("no board can be made"));
-    }
-    let mut board = Board::new(&ROUTINE, &mut memory);
+    let made = Board::try_new(&ROUTINE, &mut memory);
+    let mut board = made.map_err(|_| anyhow!("no board can be made"))?;
     match runs_asked(rt)? {
         Some(runs) => measure(rt, &mut board, runs),
         None => show(rt, &mut board),

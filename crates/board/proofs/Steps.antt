@@ -1,27 +1,18 @@
 -- One step of a board, and runs of steps.
-use Rattle.std.proofs.Common.{◌≡◌, ℕ, ◌+◌, false, ltb, leb, ◌⊎◌, List, ◌∷◌, length, sym, ap, ◌∙◌, inl, inr}
-use Rattle.std.proofs.lemmas.Bool.{cond-false}
+use Rattle.std.proofs.Common.{◌≡◌, ℕ, ◌<◌, ◌≤◌, ◌⊎◌, List, sym, subst, ap, ◌∙◌, inl, inr}
 use Rattle.machine.specs.declared.phase.Phase.{Phase}
 use Rattle.machine.specs.declared.phase.Phase.TheVariants as phase
 use Rattle.machine.specs.declared.phase.Ending.{Ending}
-use Rattle.machine.specs.Run.{State, state, moves, stops, step, landed, Runs, last, more}
+use Rattle.machine.specs.Run.{State, moves, stops, step, Runs, last, more}
 use Rattle.machine.specs.Calls.{did, ends, does_at, run, phase_of, finished}
-use Rattle.machine.proofs.Runs.{finish}
+use Rattle.machine.proofs.Runs.{Grows, grows, finish}
 use Rattle.avr.specs.Core.{Core}
 use Rattle.avr.specs.Chip.{instruction_of, avr}
 use Rattle.avr.proofs.Sounds.{positive}
-use Rattle.cells.specs.declared.cell.Leave.TheVariants.{Call, Return}
-use Rattle.cells.specs.declared.cell.Way.TheVariants.{Leave}
-use Rattle.board.specs.Steps.{step_in}
 
--- a call that is paid for and not too deep, and a return that is paid for
-pub called : (size limit a to cy n m : ℕ) (qs rs : List ℕ) (x : Core) → ltb limit (n + cy) ≡ false → leb 16 (length rs) ≡ false → qs ≡ (a + 1) ∷ rs → m ≡ n + cy →
-    landed size a to qs m x ≡ step_in size limit (Leave (Call to)) cy cy (state a rs n x)
-called size limit a to cy n m qs rs x h o e f = rw (e, f) (sym (cond-false _ _ _ h ∙ cond-false _ _ _ o))
-
-pub returned : (size limit a r cy n m : ℕ) (qs rs : List ℕ) (x : Core) → ltb limit (n + cy) ≡ false → qs ≡ r ∷ rs → m ≡ n + cy →
-    landed size a r rs m x ≡ step_in size limit (Leave Return) cy cy (state a qs n x)
-returned size limit a r cy n m qs rs x h e f = rw (e, f) (sym (cond-false _ _ _ h))
+-- a step that goes on adds to the count, within the limit
+pub step_grows : (ws : List ℕ) (limit : ℕ) (s u : State Core) → moves u ≡ step (avr ws) limit s → (s.count < u.count) × (u.count ≤ limit)
+step_grows ws limit s u p = subst (Grows limit s.count) (sym p) (grows (avr ws) (λ a. positive a (instruction_of ws a)) limit s)
 
 -- runs, over words that stay the same
 pub run_last : (ws vs : List ℕ) (limit : ℕ) (s t : State Core) (e : Ending) → vs ≡ ws → stops t e ≡ step (avr vs) limit s → Runs (avr ws) limit s t e

@@ -1,5 +1,7 @@
 -- What a board stands for. Assumes nothing.
-use Rattle.std.specs.Prelude.{◌≡◌, ℕ, zero, suc, List, [], ◌∷◌, Some, None, Option, slice_index}
+use Rattle.std.specs.Prelude.{◌≡◌, ℕ, List, reverse}
+use Rattle.std.specs.declared.ops.ControlFlow.{ControlFlow}
+use Rattle.std.specs.declared.ops.ControlFlow.TheVariants.{Continue, Break}
 use Rattle.machine.specs.declared.phase.Ending.{Ending}
 use Rattle.machine.specs.Run.{State, state, Step, moves, stops}
 use Rattle.machine.specs.Calls as calls
@@ -7,14 +9,9 @@ use Rattle.avr.specs.Core.{Core}
 use Rattle.board.specs.declared.board.Board.{Board}
 use Rattle.board.specs.Cores.{core_of}
 
--- the returns held in the first `depth` of some slots, newest first
-abbrev pub newest : ℕ → List ℕ → List ℕ
-newest zero rs = []
-newest (suc d) rs = slice_index rs d ∷ newest d rs
-
--- the returns that a board holds
+-- the returns that a board holds, newest first
 abbrev pub held_of : Board → List ℕ
-held_of b = newest b.depth b.returns
+held_of b = reverse b.returns.items
 
 -- where a board stands
 abbrev pub state_of : Board → State Core
@@ -34,9 +31,9 @@ pub record Lent (b b' : Board) : Type 0 where
   pub bytes : b'.chip.memory.ghost_name ≡ b.chip.memory.ghost_name
 
 -- what a step's answer and the state after it stand for
-abbrev pub stepped : Option Ending → State Core → Step Core
-stepped None s = moves s
-stepped (Some e) s = stops s e
+abbrev pub stepped : ControlFlow Ending (Unit {0}) → State Core → Step Core
+stepped (Continue x) s = moves s
+stepped (Break e) s = stops s e
 
 -- a board after a call, with the call's answer
 abbrev pub after : Board → calls.Answer → calls.Done Core

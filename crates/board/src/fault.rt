@@ -15,15 +15,16 @@ pub enum MakingFault {
     Memory,
 }
 
-/// Why a call on a board is refused.
+/// Why a call on a board is refused; each fault is its number in the table of refusals.
 #[derive(Clone, Copy, PartialEq, Eq)]
 pub enum CallFault {
     /// A put unless loading, or a read unless ended.
-    Phase,
+    Phase = 12,
     /// There is no such register.
-    Register,
+    Register = 13,
 }
 
+// By hand, since clauses speak of what `?` makes, and a derived `From` says nothing of it.
 impl From<WordFault> for MakingFault {
     ghost from_gives = { λ f r. r ≡ Words f };
 
@@ -33,6 +34,7 @@ impl From<WordFault> for MakingFault {
 }
 
 impl MakingFault {
+    // An enum whose variants hold fields has no number of its own, so a match gives the one of the table of refusals.
     /// Its number in the table of refusals.
     pub fn number(self) -> u8
         ensures { result ≡ number_of (making_refusal self) }
@@ -49,9 +51,6 @@ impl CallFault {
     pub fn number(self) -> u8
         ensures { result ≡ number_of (call_refusal self) }
     {
-        match self {
-            CallFault::Phase => 12,
-            CallFault::Register => 13,
-        }
+        self as u8
     }
 }

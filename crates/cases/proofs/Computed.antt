@@ -47,12 +47,12 @@ ended n (ends (ending.Stopped w m)) = false
 
 ended_so : (n : ℕ) (a : Answer) → ended n a ≡ true → a ≡ ends (ending.Ended n)
 unfolding ended
-ended_so n done e = let z : ◌≡◌ {A = ℕ} 0 1 = cc in absurd (omega arith)
-ended_so n (refused r) e = let z : ◌≡◌ {A = ℕ} 0 1 = cc in absurd (omega arith)
-ended_so n (byte v) e = let z : ◌≡◌ {A = ℕ} 0 1 = cc in absurd (omega arith)
-ended_so n (ends (ending.Spent m)) e = let z : ◌≡◌ {A = ℕ} 0 1 = cc in absurd (omega arith)
+ended_so n done e = absurd (cc)
+ended_so n (refused r) e = absurd (cc)
+ended_so n (byte v) e = absurd (cc)
+ended_so n (ends (ending.Spent m)) e = absurd (cc)
 ended_so n (ends (ending.Ended m)) e = rw (eqb-true m n e)
-ended_so n (ends (ending.Stopped w m)) e = let z : ◌≡◌ {A = ℕ} 0 1 = cc in absurd (omega arith)
+ended_so n (ends (ending.Stopped w m)) e = absurd (cc)
 
 -- the answer of the balanced routine to a byte in r16
 abbrev answer_to : ℕ → Answer

@@ -7,6 +7,7 @@
 ghost use Rattle.cases.specs.Cases.{CasesStand};
 
 /// Every row of the table of worked examples holds of the definitions.
+#[tactic(auto, using(crate::proofs::Computed::cases_law))]
 pub fn cases_stand()
     ensures { CasesStand }
 {}

@@ -13,6 +13,7 @@ pub enum Test {
 }
 
 /// How a word leaves for another address, and does nothing else.
+// Kept beside words' Route, and no part of it: a choice among ways has at most three, which the board's speed stands on.
 #[derive(Clone, Copy)]
 pub enum Leave {
     /// Always to this address.

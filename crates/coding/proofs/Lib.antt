@@ -1,6 +1,6 @@
 mod Exhaust
 mod Sole
 mod Readings
-mod Codes
+mod Distances
 mod Words
 mod Theorem

@@ -1,7 +1,6 @@
 -- The word of an instruction fits 16 bits and, read as the instruction's own kind, is the instruction.
-use Rattle.std.proofs.Common.{◌≡◌, ℕ, ◌+◌, ◌-◌, ◌*◌, ◌/◌, ◌%◌, ◌^◌, ◌<◌, ◌≤◌, true, false, cond, not, ◌&&◌, eqb, ltb, leb, get_or, ℤ, Some, None, refl, ap, ◌∙◌, arith, lit<}
+use Rattle.std.proofs.Common.{rules, ◌≡◌, ℕ, ◌+◌, ◌-◌, ◌*◌, ◌/◌, ◌%◌, ◌^◌, ◌<◌, ◌≤◌, true, false, cond, eqb, get_or, ℤ, Some, None, refl, ap, ◌∙◌, arith, lit<}
 use Rattle.std.proofs.lemmas.Nat.{shr_high, mod_low}
-use Rattle.std.proofs.lemmas.Bool.{and_parts, not-true, ltb-true, leb-true, eqb-true}
 use Rattle.words.specs.declared.instruction.BinaryOp.{BinaryOp}
 use Rattle.words.specs.declared.instruction.ImmediateOp.{ImmediateOp}
 use Rattle.words.specs.declared.instruction.WideOp.{WideOp}
@@ -15,7 +14,14 @@ use Rattle.words.specs.Fields.{bits, unsigned, fits_field}
 use Rattle.words.specs.Codes.{binary_code, immediate_code, wide_code, unary_code, mode_code, base_code, flag_code}
 use Rattle.words.specs.Decode.{displacement, in_pair, pair_written_back, binary_of, immediate_of, wide_of, movw_of, unary_of, pointers_of, displaced_of, jump_of, branch_of, readings}
 use Rattle.words.specs.Encode.{encodable, word_of, spread}
-use Rattle.coding.proofs.Codes.{binary_coded, immediate_coded, wide_coded, unary_coded, mode_coded, base_coded, flag_coded, placed}
+use Rattle.words.specs.contracts.codes.BinaryOpCoded.TheImpl.Laws as binary
+use Rattle.words.specs.contracts.codes.ImmediateOpCoded.TheImpl.Laws as immediate
+use Rattle.words.specs.contracts.codes.WideOpCoded.TheImpl.Laws as wide
+use Rattle.words.specs.contracts.codes.UnaryOpCoded.TheImpl.Laws as unary
+use Rattle.words.specs.contracts.codes.ModeCoded.TheImpl.Laws as mode
+use Rattle.words.specs.contracts.codes.BaseCoded.TheImpl.Laws as base
+use Rattle.words.specs.contracts.codes.FlagCoded.TheImpl.Laws as flag
+use Rattle.coding.proofs.Distances.{placed}
 
 -- the place of an instruction's kind among the readings
 abbrev pub place : Instruction → ℕ
@@ -48,18 +54,18 @@ bits_at w low count above value below h =
 -- Kind by kind: where the operands fit, the reading of the word that they make.
 binary_at : (w : ℕ) (op : BinaryOp) (d r : ℕ) → d < 32 → r < 32 → w ≡ word_of (Binary op d r) → binary_of w ≡ Some (Binary op d r)
 binary_at w op d r hd hr e =
-    let coded = binary_coded op in
+    let small = binary.fits-law op in
     let c : ℕ = binary_code op in
     let opAt = bits_at w 10 6 0 c (512 * (r / 16) + 16 * d + r % 16) (omega arith) in
     let dAt = bits_at w 4 5 (2 * c + r / 16) d (r % 16) (omega arith) in
     let high = bits_at w 9 1 c (r / 16) (16 * d + r % 16) (omega arith) in
     let low = bits_at w 0 4 (64 * c + 32 * (r / 16) + d) (r % 16) 0 (omega arith) in
     let r_at : 16 * bits w 9 1 + bits w 0 4 ≡ r = omega arith in
-    rw (opAt, dAt, r_at, coded.back)
+    rw (opAt, dAt, r_at, binary.back-law op)
 
 immediate_at : (w : ℕ) (op : ImmediateOp) (d k : ℕ) → 16 ≤ d → d < 32 → k < 256 → w ≡ word_of (Immediate op d k) → immediate_of w ≡ Some (Immediate op d k)
 immediate_at w op d k ld hd hk e =
-    let coded = immediate_coded op in
+    let small = immediate.fits-law op in
     let c : ℕ = immediate_code op in
     let opAt = bits_at w 12 4 0 c (256 * (k / 16) + 16 * (d - 16) + k % 16) (omega arith) in
     let register = bits_at w 4 4 (16 * c + k / 16) (d - 16) (k % 16) (omega arith) in
@@ -67,11 +73,11 @@ immediate_at w op d k ld hd hk e =
     let low = bits_at w 0 4 (256 * c + 16 * (k / 16) + (d - 16)) (k % 16) 0 (omega arith) in
     let dAt : 16 + bits w 4 4 ≡ d = omega arith in
     let kAt : 16 * bits w 8 4 + bits w 0 4 ≡ k = omega arith in
-    rw (opAt, dAt, kAt, coded.back)
+    rw (opAt, dAt, kAt, immediate.back-law op)
 
 wide_at : (w : ℕ) (op : WideOp) (d k : ℕ) → 24 ≤ d → d < 32 → d % 2 ≡ 0 → k < 64 → w ≡ word_of (Wide op d k) → wide_of w ≡ Some (Wide op d k)
 wide_at w op d k ld hd even hk e =
-    let coded = wide_coded op in
+    let small = wide.fits-law op in
     let c : ℕ = wide_code op in
     let pair : ℕ = (d - 24) / 2 in
     let kind = bits_at w 9 7 0 0b1001011 (256 * c + 64 * (k / 16) + 16 * pair + k % 16) (omega arith) in
@@ -81,7 +87,7 @@ wide_at w op d k ld hd even hk e =
     let low = bits_at w 0 4 (32 * 0b1001011 + 16 * c + 4 * (k / 16) + pair) (k % 16) 0 (omega arith) in
     let dAt : 24 + 2 * bits w 4 2 ≡ d = omega arith in
     let kAt : 16 * bits w 6 2 + bits w 0 4 ≡ k = omega arith in
-    rw (kind, opAt, dAt, kAt, coded.back)
+    rw (kind, opAt, dAt, kAt, wide.back-law op)
 
 movw_at : (w d r : ℕ) → d < 32 → d % 2 ≡ 0 → r < 32 → r % 2 ≡ 0 → w ≡ word_of (Movw d r) → movw_of w ≡ Some (Movw d r)
 movw_at w d r hd dEven hr rEven e =
@@ -94,23 +100,23 @@ movw_at w d r hd dEven hr rEven e =
 
 unary_at : (w : ℕ) (op : UnaryOp) (d : ℕ) → d < 32 → w ≡ word_of (Unary op d) → unary_of w ≡ Some (Unary op d)
 unary_at w op d hd e =
-    let coded = unary_coded op in
+    let small = unary.fits-law op in
     let c : ℕ = unary_code op in
     let kind = bits_at w 9 7 0 0b1001010 (16 * d + c) (omega arith) in
     let dAt = bits_at w 4 5 0b1001010 d c (omega arith) in
     let opAt = bits_at w 0 4 (32 * 0b1001010 + d) c 0 (omega arith) in
-    rw (kind, dAt, opAt, coded.back)
+    rw (kind, dAt, opAt, unary.back-law op)
 
 -- a load where s is 0, and a store where it is 1
 pointer_at : (w s : ℕ) (m : Mode) (d : ℕ) → s < 2 → d < 32 → in_pair (pair_written_back m) d ≡ false → w ≡ 0x9000 + 512 * s + 16 * d + mode_code m → pointers_of w ≡ Some (cond (eqb s 0) (Load m d) (Store m d))
 pointer_at w s m d hs hd free e =
-    let coded = mode_coded m in
+    let small = mode.fits-law m in
     let c : ℕ = mode_code m in
     let kind = bits_at w 10 6 0 0b100100 (512 * s + 16 * d + c) (omega arith) in
     let sAt = bits_at w 9 1 0b100100 s (16 * d + c) (omega arith) in
     let dAt = bits_at w 4 5 (2 * 0b100100 + s) d c (omega arith) in
     let modeAt = bits_at w 0 4 (64 * 0b100100 + 32 * s + d) c 0 (omega arith) in
-    rw (kind, modeAt, coded.back, dAt, sAt, free)
+    rw (kind, modeAt, mode.back-law m, dAt, sAt, free)
 
 -- a displacement is put together again from its parts
 gathered : (q : ℕ) → q < 64 → 32 * (q / 32) + 8 * (q / 8 % 4) + q % 8 ≡ q
@@ -118,7 +124,7 @@ gathered q hq = omega arith
 
 at_displaced : (w s : ℕ) (b : Base) (q d : ℕ) → s < 2 → q < 64 → d < 32 → w ≡ 0x8000 + 512 * s + spread q + 16 * d + 8 * base_code b → displaced_of w ≡ Some (cond (eqb s 0) (LoadDisplaced b q d) (StoreDisplaced b q d))
 at_displaced w s b q d hs hq hd e =
-    let coded = base_coded b in
+    let small = base.fits-law b in
     let c : ℕ = base_code b in
     let high : ℕ = q / 32 in
     let middle : ℕ = q / 8 % 4 in
@@ -132,7 +138,7 @@ at_displaced w s b q d hs hq hd e =
     let dAt = bits_at w 4 5 (32 * 0b10 + 16 * high + 2 * middle + s) d (8 * c + low) (omega arith) in
     let base_at = bits_at w 3 1 (1024 * 0b10 + 512 * high + 64 * middle + 32 * s + d) c low (omega arith) in
     let qAt : displacement w ≡ q = rw (highAt, middleAt, lowAt) (gathered q hq) in
-    rw (kind, clear, base_at, coded.back, qAt, dAt, sAt)
+    rw (kind, clear, base_at, base.back-law b, qAt, dAt, sAt)
 
 rjmp_at : (w : ℕ) (k : ℤ) → fits_field 2048 k ≡ true → w ≡ word_of (Rjmp k) → jump_of w ≡ Some (Rjmp k)
 rjmp_at w k fits e =
@@ -151,7 +157,7 @@ rcall_at w k fits e =
 -- taken if the flag is set where n is 0, and if it is clear where n is 1
 branch_at : (w n : ℕ) (f : Flag) (k : ℤ) → n < 2 → fits_field 64 k ≡ true → w ≡ 0xF000 + 1024 * n + 8 * unsigned 64 k + flag_code f → branch_of w ≡ Some (Branch f (eqb n 0) k)
 branch_at w n f k hn fits e =
-    let coded = flag_coded f in
+    let small = flag.fits-law f in
     let there = placed 64 k fits in
     let c : ℕ = flag_code f in
     let u : ℕ = unsigned 64 k in
@@ -159,70 +165,57 @@ branch_at w n f k hn fits e =
     let nAt = bits_at w 10 1 0b11110 n (8 * u + c) (omega arith) in
     let kAt = bits_at w 3 7 (2 * 0b11110 + n) u c (omega arith) in
     let flagAt = bits_at w 0 3 (256 * 0b11110 + 128 * n + u) c 0 (omega arith) in
-    rw (kind, flagAt, coded.back, nAt, kAt, there.back)
+    rw (kind, flagAt, flag.back-law f, nAt, kAt, there.back)
 
 -- and so for every instruction whose operands fit
 pub own : (i : Instruction) → encodable i ≡ true → Own i
 own (Binary op d r) h =
-    let fit = and_parts (ltb d 32) (ltb r 32) h in
-    let coded = binary_coded op in
-    let hd = ltb-true d 32 fit.0 in
-    let hr = ltb-true r 32 fit.1 in
+    let small = binary.fits-law op in
+    let hd : d < 32 = search rules in
+    let hr : r < 32 = search rules in
     record { small = omega arith; reads = binary_at (word_of (Binary op d r)) op d r hd hr refl }
 own (Immediate op d k) h =
-    let fit = and_parts (leb 16 d && ltb d 32) (ltb k 256) h in
-    let range = and_parts (leb 16 d) (ltb d 32) fit.0 in
-    let coded = immediate_coded op in
-    let ld = leb-true 16 d range.0 in
-    let hd = ltb-true d 32 range.1 in
-    let hk = ltb-true k 256 fit.1 in
+    let small = immediate.fits-law op in
+    let ld : 16 ≤ d = search rules in
+    let hd : d < 32 = search rules in
+    let hk : k < 256 = search rules in
     record { small = omega arith; reads = immediate_at (word_of (Immediate op d k)) op d k ld hd hk refl }
 own (Wide op d k) h =
-    let fit = and_parts (leb 24 d && ltb d 32) (eqb (d % 2) 0 && ltb k 64) h in
-    let range = and_parts (leb 24 d) (ltb d 32) fit.0 in
-    let rest = and_parts (eqb (d % 2) 0) (ltb k 64) fit.1 in
-    let coded = wide_coded op in
-    let ld = leb-true 24 d range.0 in
-    let hd = ltb-true d 32 range.1 in
-    let even = eqb-true (d % 2) 0 rest.0 in
-    let hk = ltb-true k 64 rest.1 in
+    let small = wide.fits-law op in
+    let ld : 24 ≤ d = search rules in
+    let hd : d < 32 = search rules in
+    let even : d % 2 ≡ 0 = search rules in
+    let hk : k < 64 = search rules in
     record { small = omega arith; reads = wide_at (word_of (Wide op d k)) op d k ld hd even hk refl }
 own (Movw d r) h =
-    let fit = and_parts (ltb d 32 && eqb (d % 2) 0) (ltb r 32 && eqb (r % 2) 0) h in
-    let left = and_parts (ltb d 32) (eqb (d % 2) 0) fit.0 in
-    let right = and_parts (ltb r 32) (eqb (r % 2) 0) fit.1 in
-    let hd = ltb-true d 32 left.0 in
-    let dEven = eqb-true (d % 2) 0 left.1 in
-    let hr = ltb-true r 32 right.0 in
-    let rEven = eqb-true (r % 2) 0 right.1 in
+    let hd : d < 32 = search rules in
+    let dEven : d % 2 ≡ 0 = search rules in
+    let hr : r < 32 = search rules in
+    let rEven : r % 2 ≡ 0 = search rules in
     record { small = omega arith; reads = movw_at (word_of (Movw d r)) d r hd dEven hr rEven refl }
 own (Unary op d) h =
-    let coded = unary_coded op in
-    let hd = ltb-true d 32 h in
+    let small = unary.fits-law op in
+    let hd : d < 32 = search rules in
     record { small = omega arith; reads = unary_at (word_of (Unary op d)) op d hd refl }
 own (Load m d) h =
-    let fit = and_parts (ltb d 32) (not (in_pair (pair_written_back m) d)) h in
-    let coded = mode_coded m in
-    let hd = ltb-true d 32 fit.0 in
-    let free = not-true (in_pair (pair_written_back m) d) fit.1 in
+    let small = mode.fits-law m in
+    let hd : d < 32 = search rules in
+    let free : in_pair (pair_written_back m) d ≡ false = search rules in
     record { small = omega arith; reads = pointer_at (word_of (Load m d)) 0 m d (lit< tt) hd free (omega arith) }
 own (Store m r) h =
-    let fit = and_parts (ltb r 32) (not (in_pair (pair_written_back m) r)) h in
-    let coded = mode_coded m in
-    let hr = ltb-true r 32 fit.0 in
-    let free = not-true (in_pair (pair_written_back m) r) fit.1 in
+    let small = mode.fits-law m in
+    let hr : r < 32 = search rules in
+    let free : in_pair (pair_written_back m) r ≡ false = search rules in
     record { small = omega arith; reads = pointer_at (word_of (Store m r)) 1 m r (lit< tt) hr free (omega arith) }
 own (LoadDisplaced b q d) h =
-    let fit = and_parts (ltb q 64) (ltb d 32) h in
-    let coded = base_coded b in
-    let hq = ltb-true q 64 fit.0 in
-    let hd = ltb-true d 32 fit.1 in
+    let small = base.fits-law b in
+    let hq : q < 64 = search rules in
+    let hd : d < 32 = search rules in
     record { small = omega arith; reads = at_displaced (word_of (LoadDisplaced b q d)) 0 b q d (lit< tt) hq hd (omega arith) }
 own (StoreDisplaced b q r) h =
-    let fit = and_parts (ltb q 64) (ltb r 32) h in
-    let coded = base_coded b in
-    let hq = ltb-true q 64 fit.0 in
-    let hr = ltb-true r 32 fit.1 in
+    let small = base.fits-law b in
+    let hq : q < 64 = search rules in
+    let hr : r < 32 = search rules in
     record { small = omega arith; reads = at_displaced (word_of (StoreDisplaced b q r)) 1 b q r (lit< tt) hq hr (omega arith) }
 own (Rjmp k) h =
     let there = placed 2048 k h in
@@ -232,11 +225,11 @@ own (Rcall k) h =
     record { small = omega arith; reads = rcall_at (word_of (Rcall k)) k h refl }
 own (Branch f true k) h =
     let there = placed 64 k h in
-    let coded = flag_coded f in
+    let small = flag.fits-law f in
     record { small = omega arith; reads = branch_at (word_of (Branch f true k)) 0 f k (lit< tt) h (omega arith) }
 own (Branch f false k) h =
     let there = placed 64 k h in
-    let coded = flag_coded f in
+    let small = flag.fits-law f in
     record { small = omega arith; reads = branch_at (word_of (Branch f false k)) 1 f k (lit< tt) h (omega arith) }
 own Ret h = record { small = lit< tt; reads = refl }
 own Clc h = record { small = lit< tt; reads = refl }

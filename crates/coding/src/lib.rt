@@ -14,8 +14,5 @@ pub fn recode(word: u16) -> Option<u16>
     ensures answer { result ≡ recode_of word }
     ensures inverse { Inverse }
 {
-    match Instruction::decode(word) {
-        Some(instruction) => instruction.encode(),
-        None => None,
-    }
+    Instruction::decode(word).and_then(Instruction::encode)
 }

@@ -2,13 +2,15 @@
 use Rattle.std.specs.Prelude.{◌≡◌}
 use Rattle.machine.specs.Calls as calls
 use Rattle.avr.specs.declared.location.Location.{Location}
+use Rattle.avr.specs.Core.{Core}
 use Rattle.avr.specs.Chip.{avr}
 use Rattle.secrecy.specs.Couples.{Both, clears, runs, reads, puts, left, right}
 use Rattle.board.specs.declared.board.Board.{Board}
 use Rattle.board.specs.States.{board_of, words_of, after}
 use Rattle.couples.specs.declared.answers.Answers.{Answers}
-use Rattle.couples.specs.declared.working.Call.{Call}
-use Rattle.couples.specs.declared.working.Call.TheVariants.{Clear, Put, Run, Read}
+use Rattle.avr.specs.declared.calls.Call.{Call}
+use Rattle.avr.specs.declared.calls.Call.TheVariants.{Clear, Put, Run, Read}
+use Rattle.couples.specs.declared.working.Couple.{Couple}
 use Rattle.couples.specs.Answers.{answer_of}
 
 -- the call on both boards of which the secrecy theorem speaks
@@ -26,3 +28,7 @@ Works call b b' answer = after b' answer ≡ calls.does (avr (words_of b)) call 
 pub record Answered (call : Call) (b c b' c' : Board) (answers : Answers) : Type 0 where
   pub left_side : Works (left (both_of call)) b b' (answer_of answers.left)
   pub right_side : Works (right (both_of call)) c c' (answer_of answers.right)
+
+-- what the two boards of a couple stand for, the left one first
+abbrev pub sides : Couple → calls.Board Core × calls.Board Core
+sides c = (board_of c.left, board_of c.right)

@@ -8,6 +8,7 @@ use machine::phase::{Ending, Stop};
 use std::fmt;
 
 /// What a board answers to a call.
+// No Result, since a refusal is an answer like the others: two boards are compared by it, and it is printed as it stands.
 #[derive(Clone, Copy, PartialEq, Eq)]
 pub enum Answer {
     /// The call was done.
@@ -20,25 +21,22 @@ pub enum Answer {
     Refuses(CallFault),
 }
 
-impl Answer {
-    /// What a put answers.
-    pub(crate) fn to_put(res: Result<(), CallFault>) -> Answer
-        ensures { answer_of result ≡ put_answer res }
-    {
-        match res {
-            Ok(()) => Answer::Done,
-            Err(fault) => Answer::Refuses(fault),
-        }
-    }
+/// What a put answers.
+// One conversion for both would need a bound by which `()` and a byte become answers.
+impl From<Result<(), CallFault>> for Answer {
+    ghost from_gives = { λ res answer. answer_of answer ≡ put_answer res };
 
-    /// What a read answers.
-    pub(crate) fn to_read(res: Result<u8, CallFault>) -> Answer
-        ensures { answer_of result ≡ read_answer res }
-    {
-        match res {
-            Ok(byte) => Answer::Byte(byte),
-            Err(fault) => Answer::Refuses(fault),
-        }
+    fn from(res: Result<(), CallFault>) -> Answer {
+        res.map_or_else(Answer::Refuses, |()| Answer::Done)
+    }
+}
+
+/// What a read answers.
+impl From<Result<u8, CallFault>> for Answer {
+    ghost from_gives = { λ res answer. answer_of answer ≡ read_answer res };
+
+    fn from(res: Result<u8, CallFault>) -> Answer {
+        res.map_or_else(Answer::Refuses, Answer::Byte)
     }
 }
 
@@ -67,19 +65,14 @@ impl fmt::Display for Answer {
             Answer::Ends(Ending::Ended(count)) => write!(f, "ended {count}"),
             Answer::Ends(Ending::Stopped(Stop::Deep, count)) => write!(f, "deep {count}"),
             Answer::Ends(Ending::Stopped(Stop::Off, count)) => write!(f, "off {count}"),
-            Answer::Refuses(fault) => {
-                let number = fault.number();
-                write!(f, "refused {number}")
-            }
+            Answer::Refuses(fault) => write!(f, "refused {}", fault.number()),
         }
     }
 }
 
 impl fmt::Display for Answers {
     fn fmt<W: fmt::Write>(&self, f: &mut fmt::Formatter<W>) -> fmt::Result {
-        let left = self.left;
-        let right = self.right;
         let verdict = if self.agree() { "same" } else { "differ" };
-        write!(f, "{left} / {right} | {verdict}")
+        write!(f, "{} / {} | {verdict}", self.left, self.right)
     }
 }

@@ -1,9 +1,8 @@
 //! What the program prints of calls on a couple of boards.
 use avr::location::Location;
-use board::board::Board;
 use board::fault::CallFault;
 use couples::answers::{Answer, Answers};
-use couples::working::{Call, work};
+use couples::working::{Call, Couple};
 use std::{fmt, io};
 
 /// A place as routine files write it.
@@ -102,10 +101,9 @@ impl fmt::Display for Outcome {
 pub(crate) fn work_call(
     rt: &HostRuntime,
     call: Call,
-    left: &mut Board<'_, '_>,
-    right: &mut Board<'_, '_>,
+    couple: &mut Couple<'_, '_, '_>,
 ) -> io::Result<()> {
-    let answers = work(call, left, right);
+    let answers = couple.work(call);
     let written = Written(call);
     let outcome = Outcome { call, answers };
     println!(rt; "{written}: {outcome}")

@@ -10,18 +10,18 @@ mod naming;
 mod showing;
 mod working;
 
-ghost use Rattle.std.specs.Prelude.{◌≡◌};
+ghost use Rattle.std.specs.Prelude.{◌≡◌, ◌<◌, length};
 ghost use Rattle.verdicts.specs.Verdict.{refused};
 ghost use Rattle.words.specs.Legal.{legal_of, word_refusal};
 
 use crate::showing::{Cycles, Next};
+use crate::working::Job;
 use notation::Assembly;
 use routine::Routine;
 use std::io::Read;
 use std::process::ExitCode;
 use std::{env, fs, io};
 use words::fault::WordFault;
-use words::instruction::Instruction;
 use words::listing::Listing;
 
 /// What `--help` prints.
@@ -55,15 +55,15 @@ fn main(rt: HostRuntime) -> ExitCode {
 
 /// Carries out what the arguments name, and answers whether all of it could be.
 fn run(rt: &HostRuntime) -> io::Result<bool> {
-    let mut named = false;
-    let mut fine = true;
-    for name in env::args(rt)?.skip(1) {
-        named = true;
-        if !carry_out_argument(rt, name.as_str())? {
-            fine = false;
-        }
+    let mut names = env::args(rt)?.skip(1).peekable();
+    if names.peek().is_none() {
+        return carry_out_input(rt);
     }
-    if named { Ok(fine) } else { carry_out_input(rt) }
+    let mut fine = true;
+    for name in names {
+        fine &= carry_out_argument(rt, name.as_str())?;
+    }
+    Ok(fine)
 }
 
 /// Prints the help, or carries out the file of that name.
@@ -111,11 +111,14 @@ fn carry_out(rt: &HostRuntime, name: &str, file: &[u8]) -> io::Result<bool> {
 fn print_routine(rt: &HostRuntime, name: &str, routine: &Routine) -> io::Result<()> {
     println!(rt; "routine {name}")?;
     print_words(rt, routine.words.as_slice())?;
+    // A match, since `map`, `transpose` and `flatten` say the same in three words that a reader has to unfold.
     let order = match &routine.order {
         Some(text) => naming::print_order(rt, text)?,
         None => None,
     };
-    working::work(rt, routine, &order)
+    let order = order.as_ref();
+    let job = Job { routine, order };
+    job.work(rt)
 }
 
 /// Prints the words as a listing, or why they are none.
@@ -127,6 +130,7 @@ fn print_words(rt: &HostRuntime, words: &[u16]) -> io::Result<()> {
 }
 
 /// Prints why words are no listing, with the number of the refusal.
+// Explanations of a judgement say the same of the length, and of a word that does not decode not which it is.
 fn print_refusal(rt: &HostRuntime, fault: WordFault, words: &[u16]) -> io::Result<()>
     requires { legal_of words.now ≡ refused (word_refusal fault) }
 {
@@ -149,29 +153,24 @@ fn print_refusal(rt: &HostRuntime, fault: WordFault, words: &[u16]) -> io::Resul
 fn print_listing(rt: &HostRuntime, listing: Listing<'_>) -> io::Result<()> {
     let len = listing.len();
     println!(rt; "listing {len} words")?;
+    // An address, by which a listing is asked for a word and its instruction.
     for at in 0..len {
-        let Some(word) = listing.word(at) else {
-            unreachable()
-        };
-        let Some(instruction) = listing.instruction(at) else {
-            unreachable()
-        };
-        print_word(rt, at, word, instruction, len)?;
+        print_word(rt, listing, at)?;
     }
     Ok(())
 }
 
-/// Prints the word at an address, its instruction, its cycles and the addresses that are next, in a listing of `len` words.
-fn print_word(
-    rt: &HostRuntime,
-    at: u16,
-    word: u16,
-    instruction: Instruction,
-    len: u16,
-) -> io::Result<()> {
+/// Prints the word at an address of a listing, its instruction, its cycles and the addresses that are next.
+fn print_word(rt: &HostRuntime, listing: Listing<'_>, at: u16) -> io::Result<()>
+    requires { at < length listing.words.now }
+{
+    let (Some(word), Some(instruction)) = (listing.word(at), listing.instruction(at)) else {
+        unreachable()
+    };
     let assembly = Assembly(instruction);
     let route = instruction.route(at);
     let cycles = Cycles { instruction, route };
+    let len = listing.len();
     let next = Next { at, route, len };
     println!(rt; "{at} 0x{word:04X} {assembly} | {cycles} | {next}")
 }

@@ -64,6 +64,7 @@ pub(crate) fn print_order(rt: &HostRuntime, text: &OrderText) -> io::Result<Opti
             print_held(rt, &made)?;
             Ok(Some(made))
         }
+        // Not met, since no part is refused; but that is no fact of this function.
         Err(fault) => {
             let number = fault.number();
             println!(rt; "refused {number}")?;
@@ -91,19 +92,14 @@ fn print_name(rt: &HostRuntime, text: &OrderText) -> io::Result<()> {
 fn first_unmade(text: &OrderText) -> Option<Unmade<'_>> {
     match text {
         OrderText::Simple(form) => why_unmade(form),
-        OrderText::Pair(first, second) => match why_unmade(first) {
-            Some(unmade) => Some(unmade),
-            None => why_unmade(second),
-        },
+        OrderText::Pair(first, second) => why_unmade(first).or_else(|| why_unmade(second)),
     }
 }
 
 /// Why an order of a simple kind is refused, if it is.
 fn why_unmade(text: &SimpleText) -> Option<Unmade<'_>> {
-    match text.make() {
-        Ok(_) => None,
-        Err(fault) => Some(Unmade { text, fault }),
-    }
+    let fault = text.make().err()?;
+    Some(Unmade { text, fault })
 }
 
 /// Prints which codes an order holds.

@@ -1,16 +1,10 @@
 -- What an explanation goes by. Assumes nothing.
-use Rattle.std.specs.Prelude.{ℕ, false, not, ◌&&◌, length, ◌==◌}
+use Rattle.std.specs.Prelude.{ℕ, false, not, ◌&&◌, ◌==◌}
 use Rattle.words.specs.declared.instruction.Instruction.{Instruction}
 use Rattle.words.specs.declared.route.Route.{Route}
 use Rattle.words.specs.declared.route.Route.TheVariants.{To, Fork, Call, Return}
 use Rattle.words.specs.Cycles.{cycles_of}
 use Rattle.words.specs.Routes.{route_of}
-use Rattle.secrecy.specs.Rows.{Rows, rows_of}
-use Rattle.explanations.specs.declared.refusal.Refusal.{Refusal}
-
--- what the rows of a refusal say
-abbrev pub seen : Refusal → Rows
-seen refusal = rows_of (length refusal.words.now) refusal.rows.now
 
 -- the cycles of a way that leads to b, by where the word leads; where both ways of a fork lead there, those of going on
 abbrev pub cycles_by : ℕ → Route → Instruction → ℕ

@@ -2,7 +2,6 @@
 ghost use Rattle.std.specs.Prelude.{◌≡◌, length};
 
 use crate::refusal::Refusal;
-use avr::sources::Sources;
 use avr::table::deciders;
 use judge::faults::{FlowFault, JudgeFault, RowFault};
 use notation::Assembly;
@@ -11,21 +10,14 @@ use std::fmt;
 use words::fault::WordFault;
 use words::instruction::Instruction;
 
-/// The name of a column by where it stands in its row.
+/// The name of the column that stands at an index of its row.
 #[derive(Clone, Copy)]
 struct ColumnName(u16);
 
 impl fmt::Display for ColumnName {
     fn fmt<W: fmt::Write>(&self, f: &mut fmt::Formatter<W>) -> fmt::Result {
         match Column::from_index(self.0) {
-            Some(Column::Register(register)) => write!(f, "r{register}"),
-            Some(Column::Carry) => f.write_str("c"),
-            Some(Column::Zero) => f.write_str("z"),
-            Some(Column::Memory) => f.write_str("memory"),
-            Some(Column::Region) => f.write_str("region"),
-            Some(Column::Join) => f.write_str("join"),
-            Some(Column::Remaining) => f.write_str("remaining"),
-            Some(Column::Function) => f.write_str("function"),
+            Some(column) => write!(f, "{column}"),
             None => f.write_str("no column"),
         }
     }
@@ -38,6 +30,7 @@ struct RowLabel {
     len: usize,
 }
 
+// By hand, since the text depends on how many words there are.
 impl fmt::Display for RowLabel {
     fn fmt<W: fmt::Write>(&self, f: &mut fmt::Formatter<W>) -> fmt::Result {
         let row = self.row;
@@ -64,11 +57,11 @@ impl fmt::Display for Refusal<'_> {
 impl Refusal<'_> {
     /// A row by its number.
     fn label(&self, row: u32) -> RowLabel
-        ensures { (result.row ≡ row) × (result.len ≡ length self.now.words.now) }
+        ensures { (result.row ≡ row) × (result.len ≡ length self.now.routine.words.now) }
     {
         RowLabel {
             row,
-            len: self.words.len(),
+            len: self.routine.words.len(),
         }
     }
 
@@ -80,7 +73,7 @@ impl Refusal<'_> {
     ) -> fmt::Result {
         match fault {
             WordFault::Length => {
-                let len = self.words.len();
+                let len = self.routine.words.len();
                 write!(f, ": a routine has 1 to 1024 words, and this one has {len}")
             }
             WordFault::Undecodable(at) => write!(
@@ -98,8 +91,8 @@ impl Refusal<'_> {
     ) -> fmt::Result {
         match fault {
             RowFault::Count => {
-                let count = self.rows.len();
-                let words = self.words.len();
+                let count = self.routine.rows.len();
+                let words = self.routine.words.len();
                 write!(
                     f,
                     ": the rows have {count} numbers; {words} words need {COLUMNS} for each word and {COLUMNS} for the finish row"
@@ -108,7 +101,7 @@ impl Refusal<'_> {
             RowFault::NotHeld { row, column } => {
                 let label = self.label(u32::from(row));
                 let name = ColumnName(column);
-                let code = self.number(u32::from(row), column);
+                let code = self.routine.cell(u32::from(row), column);
                 write!(
                     f,
                     " at row {row}, column {column}: {label} says {name}={code}, and the order holds no code {code}; write one that it holds"
@@ -124,20 +117,20 @@ impl Refusal<'_> {
     /// What is wrong with the shape of a row.
     fn explain_shape<W: fmt::Write>(&self, f: &mut fmt::Formatter<W>, at: u16) -> fmt::Result {
         let row = u32::from(at);
-        let len = self.words.len();
+        let len = self.routine.words.len();
         let join = self.join(row);
-        let function = self.function(row);
+        let function = self.routine.function(row);
         if usize::from(at) == len {
             return f.write_str(
                 "it is the finish row, whose region, join, remaining and function must be 0",
             );
         }
-        if self.remaining(row) == 0 && (self.number(row, REGION) != 0 || join != 0) {
+        if self.routine.remaining(row) == 0 && (self.routine.region(row) != 0 || join != 0) {
             return f.write_str(
                 "remaining is 0, so region and join must be 0 too; or write the remaining cycles of the region",
             );
         }
-        if self.remaining(row) != 0 && usize::from(join) >= len {
+        if self.routine.remaining(row) != 0 && usize::from(join) >= len {
             return write!(
                 f,
                 "join is {join}, and must be the address of one of the {len} words"
@@ -169,8 +162,8 @@ impl Refusal<'_> {
 
     /// A call or a return inside a region.
     fn explain_inside<W: fmt::Write>(&self, f: &mut fmt::Formatter<W>, at: u16) -> fmt::Result {
-        let word = Assembly(self.instruction(at));
-        let remaining = self.remaining(u32::from(at));
+        let word = Assembly(self.routine.instruction(at));
+        let remaining = self.routine.remaining(u32::from(at));
         write!(
             f,
             " at {at}: {word} stands inside a region, since row {at} has remaining={remaining}; a call or a return must stand outside, so end the region before it"
@@ -179,9 +172,9 @@ impl Refusal<'_> {
 
     /// A word that leads out of the listing or of its function.
     fn explain_bounds<W: fmt::Write>(&self, f: &mut fmt::Formatter<W>, at: u16) -> fmt::Result {
-        let word = Assembly(self.instruction(at));
-        let function = self.function(u32::from(at));
-        let len = self.words.len();
+        let word = Assembly(self.routine.instruction(at));
+        let function = self.routine.function(u32::from(at));
+        let len = self.routine.words.len();
         write!(
             f,
             " at {at}: {word} leads out of the {len} words or out of function {function}, which row {at} names; what comes next must be one of the words and have the same function in its row, and what is called must have its own address there"
@@ -190,7 +183,7 @@ impl Refusal<'_> {
 
     /// A decision by a secret, outside every region.
     fn explain_deciding<W: fmt::Write>(&self, f: &mut fmt::Formatter<W>, at: u16) -> fmt::Result {
-        let instruction = self.instruction(at);
+        let instruction = self.routine.instruction(at);
         let word = Assembly(instruction);
         write!(f, " at {at}: {word} decides by ")?;
         self.write_deciding(f, at, instruction)?;
@@ -208,16 +201,16 @@ impl Refusal<'_> {
         instruction: Instruction,
     ) -> fmt::Result {
         let row = u32::from(at);
-        match deciders(instruction) {
-            Sources::One(place) => self.write_level(f, row, place),
-            Sources::Two(first, second) => {
-                self.write_level(f, row, first)?;
-                f.write_str(" and ")?;
-                self.write_level(f, row, second)
+        match deciders(instruction).as_slice() {
+            [] => f.write_str("nothing"),
+            [first, others @ ..] => {
+                self.write_level(f, row, *first)?;
+                for place in others {
+                    f.write_str(" and ")?;
+                    self.write_level(f, row, *place)?;
+                }
+                Ok(())
             }
-            Sources::Nothing | Sources::Three(_, _, _) | Sources::Four(_, _, _, _) => f.write_str(
-                "nothing",
-            ),
         }
     }
 
@@ -229,7 +222,7 @@ impl Refusal<'_> {
         column: u16,
     ) -> fmt::Result {
         let name = ColumnName(column);
-        let level = self.number(row, column);
+        let level = self.routine.cell(row, column);
         write!(f, "{name}={level}")
     }
 
@@ -240,16 +233,16 @@ impl Refusal<'_> {
         at: u16,
         next: u32,
     ) -> fmt::Result {
-        let word = Assembly(self.instruction(at));
+        let word = Assembly(self.routine.instruction(at));
         let cycles = self.cycles(at, next);
         let join = self.join(u32::from(at));
-        let remaining = self.remaining(u32::from(at));
+        let remaining = self.routine.remaining(u32::from(at));
         let label = self.label(next);
         write!(
             f,
             " at {at}, next {next}: {word} takes {cycles} of the cycles that remain on its way to {next}, and row {at} says join={join} remaining={remaining}; "
         )?;
-        if self.remaining(next) == 0 {
+        if self.routine.remaining(next) == 0 {
             write!(
                 f,
                 "{label} is outside, so row {at} would have to say join={next} remaining={cycles}: make all ways to the join address equally long"
@@ -257,7 +250,7 @@ impl Refusal<'_> {
         } else {
             let left = remaining.saturating_sub(u16::from(cycles));
             let next_join = self.join(next);
-            let next_remaining = self.remaining(next);
+            let next_remaining = self.routine.remaining(next);
             write!(
                 f,
                 "{label} would have to say join={join} remaining={left}, and says join={next_join} remaining={next_remaining}: make all ways to the join address equally long"
@@ -273,10 +266,10 @@ impl Refusal<'_> {
         next: u32,
         place: u16,
     ) -> fmt::Result {
-        let word = Assembly(self.instruction(at));
+        let word = Assembly(self.routine.instruction(at));
         let label = self.label(next);
         let name = ColumnName(place);
-        let level = self.number(next, place);
+        let level = self.routine.cell(next, place);
         if place == REGION {
             return write!(
                 f,

@@ -1,3 +1,3 @@
 pub mod Checks
-pub mod Callers
+pub mod Joins
 pub mod Placed

@@ -12,11 +12,13 @@ pub enum RowFault {
     /// There are not as many numbers as the rows of all words and the finish row take.
     Count,
     /// No level has the code in this column of this row.
+    // A number, as the refusal carries it: a `Column` would be made only to be taken apart.
     NotHeld { row: u16, column: u16 },
     /// The row has not the shape of one: its region, its function, or where it begins or ends.
     Shape { row: u16 },
 }
 
+// An enum whose variants hold fields has no number of its own, so a method gives the one of the table of refusals.
 impl RowFault {
     /// Its number in the table of refusals.
     pub fn number(self) -> u8
@@ -43,6 +45,7 @@ pub enum FlowFault {
     /// The edge from inside a region neither ends the region in time nor stays in it.
     Time { at: u16, next: u32 },
     /// The level of a place after the word does not flow to its level in the next row; `REGION` stands for the region level.
+    // A number, as the refusal carries it.
     Level { at: u16, next: u32, place: u16 },
 }
 
@@ -85,6 +88,7 @@ impl JudgeFault {
     }
 }
 
+// By hand, since the clauses of the judge speak of what `?` makes, and a derived `From` says nothing of it.
 impl From<WordFault> for JudgeFault {
     ghost from_gives = { λ f r. r ≡ Words f };
 

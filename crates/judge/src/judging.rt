@@ -8,7 +8,7 @@ ghost use Rattle.judge.specs.Faults.{judge_refusal};
 ghost use Rattle.judge.specs.Judgement.{judgement_of, Exactly};
 
 use crate::faults::JudgeFault;
-use crate::routine::Routine;
+use crate::judgement::Judgement;
 use levels::order::Order;
 use words::listing::Listing;
 
@@ -17,11 +17,10 @@ fn find_fault<O: Order>(words: &[u16], rows: &[u16], order: &O) -> Result<(), Ju
     ensures { says judge_refusal result ≡ judgement_of (O.Order.meaning order.now) words.now rows.now }
 {
     Listing::check(words)?;
-    Routine::check(words, rows)?;
-    let routine = Routine::new(words, rows);
-    routine.check_rows(order)?;
-    routine.check_addresses(order)?;
-    routine.check_edges(order)?;
+    let judgement = Judgement::try_new(words, rows, order)?;
+    judgement.check_rows()?;
+    judgement.check_addresses()?;
+    judgement.check_edges()?;
     Ok(())
 }
 

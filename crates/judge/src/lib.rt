@@ -6,5 +6,5 @@
 #![tactic(auto)]
 
 pub mod faults;
+mod judgement;
 pub mod judging;
-mod routine;

@@ -12,11 +12,13 @@ use std::alloc::{AllocError, Global};
 use std::time::Instant;
 use std::{env, fmt};
 
-/// The word of nop, of ret, and of a branch to the next word.
+/// The word of nop.
 const NOP: u16 = 0x0000;
 
+/// The word of ret.
 const RET: u16 = 0x9508;
 
+/// The word of a branch to the next word.
 const BRANCH: u16 = 0xF001;
 
 /// What a routine is made of.
@@ -30,6 +32,7 @@ enum Shape {
     Returns,
 }
 
+// By hand: the kit derives texts for errors only.
 impl fmt::Display for Shape {
     fn fmt<W: fmt::Write>(&self, f: &mut fmt::Formatter<W>) -> fmt::Result {
         f.write_str(match self {
@@ -63,37 +66,23 @@ fn function(shape: Shape, row: u16, len: u16) -> u16 {
 
 /// The words of a routine.
 fn words(heap: Global, shape: Shape, len: u16) -> Result<Vec<u16>, AllocError> {
-    let mut words = Vec::new(heap);
-    for at in 0..len {
-        words.push(word(shape, at, len))?;
-    }
-    Ok(words)
+    (0..len).map(|at| word(shape, at, len)).collect(heap)
 }
 
 /// Its rows: nothing is secret.
 fn rows(heap: Global, shape: Shape, len: u16) -> Result<Vec<u16>, AllocError> {
     let mut rows = Vec::new(heap);
-    for row in 0..len.saturating_add(1) {
-        for column in 0..COLUMNS {
-            rows.push(if column == usize::from(FUNCTION) {
-                function(shape, row, len)
-            } else {
-                0
-            })?;
-        }
+    for row in 0..=len {
+        let mut numbers = [0; COLUMNS];
+        numbers[usize::from(FUNCTION)] = function(shape, row, len);
+        rows.extend_from_slice(&numbers)?;
     }
     Ok(rows)
 }
 
 /// Judges a routine so many times, and answers whether it was accepted each time.
 fn judge_often(words: &[u16], rows: &[u16], order: &Chain, times: u32) -> bool {
-    let mut accepted = true;
-    for _ in 0..times {
-        if judge(words, rows, order).is_err() {
-            accepted = false;
-        }
-    }
-    accepted
+    (0..times).fold(true, |all, _| judge(words, rows, order).is_ok() && all)
 }
 
 /// Judges a routine of a shape once, and prints the verdict.
@@ -127,19 +116,15 @@ fn measure(
 }
 
 /// How often each routine is to be judged, if the program is called with a number.
+// `bench` has these lines too: a crate for the two would be longer.
 fn times_asked(rt: &HostRuntime) -> anyhow::Result<Option<u32>> {
-    let mut args = env::args(rt)?.skip(1);
-    match args.next() {
-        Some(word) => Ok(Some(word.as_str().parse::<u32>()?)),
-        None => Ok(None),
-    }
+    let word = env::args(rt)?.nth(1);
+    Ok(word.map(|word| word.as_str().parse::<u32>()).transpose()?)
 }
 
 /// Judges routines of all shapes.
 fn bench(rt: &HostRuntime) -> anyhow::Result<()> {
-    let Ok(order) = Chain::new(2) else {
-        return Err(anyhow!("no chain of 2"));
-    };
+    let order = Chain::new(2).map_err(|_| anyhow!("no chain of 2"))?;
     let times = times_asked(rt)?;
     for shape in [Shape::Straight, Shape::Branches, Shape::Returns] {
         match times {

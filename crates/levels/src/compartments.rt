@@ -20,7 +20,7 @@ impl Compartments {
     pub fn new(bits: u32) -> Result<Compartments, OrderFault>
         ensures { outcome (λ o. o.bits) refusal_of result ≡ making (sized 16 bits) bits }
     {
-        if bits == 0 || bits > 16 {
+        if !(1..=16).contains(&bits) {
             return Err(OrderFault::Size);
         }
         Ok(Compartments { bits })

@@ -2,13 +2,13 @@
 ghost use Rattle.std.specs.Prelude.{◌≡◌};
 ghost use Rattle.levels.specs.Faults.{number_of};
 
-/// Why an order is not made.
-#[derive(Clone, Copy)]
+/// Why an order is not made, with the numbers of the refusals.
+#[derive(Clone, Copy, Debug, PartialEq, Eq)]
 pub enum OrderFault {
     /// The size is out of range, or a table's bytes are not a square of that size.
-    Size,
+    Size = 14,
     /// The table breaks a law.
-    Law,
+    Law = 15,
 }
 
 impl OrderFault {
@@ -16,9 +16,6 @@ impl OrderFault {
     pub fn number(&self) -> u8
         ensures { result ≡ number_of self.now }
     {
-        match self {
-            OrderFault::Size => 14,
-            OrderFault::Law => 15,
-        }
+        *self as u8
     }
 }

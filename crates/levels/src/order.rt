@@ -20,6 +20,8 @@ pub trait Order {
         ensures { result ≡ (meaning self.now).flows a b };
 
     /// The least level that both may flow to: 0, where one of the two is not held.
+    // Each implementation asks whether both are held. A `final` method could ask for all, but each join would be the same choice by
+    // its answer.
     fn join(&self, a: u16, b: u16) -> u16
         ensures { result ≡ (meaning self.now).join a b };
 

@@ -14,9 +14,10 @@ use crate::table::square::Square;
 mod square;
 
 /// Levels 0 to `levels` - 1, with the join of each two among `joins`, row by row.
+// A table has no heap, so it has room for the joins of 16 levels; an `ArrayVec` would hold a length that `levels` says already.
 #[derive(Drop)]
 pub struct Table {
-    levels: usize,
+    levels: u8,
     joins: [u8; 256],
     ghost size: { (1 ≤ levels) × (levels ≤ 16) },
     ghost sound: { semilattice levels (join_in joins levels) ≡ true },
@@ -28,9 +29,7 @@ fn padded(bytes: &[u8]) -> [u8; 256]
     ensures { (k : ℕ) → slice_index result k ≡ slice_index bytes.now k }
 {
     let mut out = [0; 256];
-    for i in 0..bytes.len() {
-        out[i] = bytes[i];
-    }
+    out[..bytes.len()].copy_from_slice(bytes);
     out
 }
 
@@ -54,9 +53,10 @@ impl Table {
         ensures filled { is_ok result ≡ true → (self.new.levels ≡ levels) × (table self.new.levels self.new.joins ≡ table levels bytes.now) }
         ensures unchanged { is_err result ≡ true → self.new ≡ self.old }
     {
-        if levels == 0 || levels > 16 || bytes.len() != levels * levels {
+        if !(1..=16).contains(&levels) || bytes.len() != levels * levels {
             return Err(OrderFault::Size);
         }
+        let levels = levels as u8;
         let square = Square { levels, bytes };
         if !square.is_semilattice() {
             return Err(OrderFault::Law);
@@ -72,7 +72,7 @@ impl Table {
     pub fn levels(&self) -> usize
         ensures { result ≡ self.now.levels }
     {
-        self.levels
+        usize::from(self.levels)
     }
 
     /// The joins, as the bytes of a square.
@@ -92,18 +92,16 @@ impl Order for Table {
     ghost lawful = { λ o. test_laws o.levels (join_in o.joins o.levels) o.size.0 (omega (arith, o.size.1)) o.sound };
 
     fn holds(&self, code: u16) -> bool {
-        usize::from(code) < self.levels
+        code < u16::from(self.levels)
     }
 
     fn flows(&self, a: u16, b: u16) -> bool {
-        self.holds(a)
-            && self.holds(b)
-            && self.square().join(usize::from(a), usize::from(b)) == usize::from(b)
+        self.holds(a) && self.holds(b) && self.square().join(a as u8, b as u8) == b as u8
     }
 
     fn join(&self, a: u16, b: u16) -> u16 {
         if self.holds(a) && self.holds(b) {
-            self.square().join(usize::from(a), usize::from(b)) as u16
+            u16::from(self.square().join(a as u8, b as u8))
         } else {
             0
         }

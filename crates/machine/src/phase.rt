@@ -1,4 +1,6 @@
 //! What a board may be doing, and how a run may end.
+ghost use Rattle.std.specs.Prelude.{◌≡◌};
+ghost use Rattle.machine.specs.Calls.{phase_of};
 
 /// What stops a board for good before its routine has ended.
 #[derive(Clone, Copy, PartialEq, Eq)]
@@ -10,7 +12,7 @@ pub enum Stop {
 }
 
 /// What a board may be doing.
-#[derive(Clone, Copy)]
+#[derive(Clone, Copy, PartialEq, Eq)]
 pub enum Phase {
     /// Bytes may be put.
     Loading,
@@ -31,4 +33,17 @@ pub enum Ending {
     Ended(u32),
     /// The board was stopped; the cycle count is carried.
     Stopped(Stop, u32),
+}
+
+/// The phase that an ending leaves a board in.
+impl From<Ending> for Phase {
+    ghost from_gives = { λ ending phase. phase ≡ phase_of ending };
+
+    fn from(ending: Ending) -> Phase {
+        match ending {
+            Ending::Spent(_) => Phase::Running,
+            Ending::Ended(_) => Phase::Ended,
+            Ending::Stopped(stop, _) => Phase::Stopped(stop),
+        }
+    }
 }

@@ -6,72 +6,84 @@
 use std::fmt;
 use words::instruction::{Base, BinaryOp, Flag, ImmediateOp, Instruction, Mode, UnaryOp, WideOp};
 
-/// The mnemonic of an operation.
-fn binary(op: BinaryOp) -> &'static str {
-    match op {
-        BinaryOp::Cpc => "cpc",
-        BinaryOp::Sbc => "sbc",
-        BinaryOp::Add => "add",
-        BinaryOp::Cpse => "cpse",
-        BinaryOp::Cp => "cp",
-        BinaryOp::Sub => "sub",
-        BinaryOp::Adc => "adc",
-        BinaryOp::And => "and",
-        BinaryOp::Eor => "eor",
-        BinaryOp::Or => "or",
-        BinaryOp::Mov => "mov",
-        BinaryOp::Mul => "mul",
+/// What the notation has a name for: a mnemonic, or a pointer with its step.
+// No Display, which would have to stand in the crate of the types.
+trait Named: Copy {
+    fn name(self) -> &'static str;
+}
+
+impl Named for BinaryOp {
+    fn name(self) -> &'static str {
+        match self {
+            BinaryOp::Cpc => "cpc",
+            BinaryOp::Sbc => "sbc",
+            BinaryOp::Add => "add",
+            BinaryOp::Cpse => "cpse",
+            BinaryOp::Cp => "cp",
+            BinaryOp::Sub => "sub",
+            BinaryOp::Adc => "adc",
+            BinaryOp::And => "and",
+            BinaryOp::Eor => "eor",
+            BinaryOp::Or => "or",
+            BinaryOp::Mov => "mov",
+            BinaryOp::Mul => "mul",
+        }
     }
 }
 
-/// The mnemonic of an operation.
-fn immediate(op: ImmediateOp) -> &'static str {
-    match op {
-        ImmediateOp::Cpi => "cpi",
-        ImmediateOp::Sbci => "sbci",
-        ImmediateOp::Subi => "subi",
-        ImmediateOp::Andi => "andi",
-        ImmediateOp::Ldi => "ldi",
+impl Named for ImmediateOp {
+    fn name(self) -> &'static str {
+        match self {
+            ImmediateOp::Cpi => "cpi",
+            ImmediateOp::Sbci => "sbci",
+            ImmediateOp::Subi => "subi",
+            ImmediateOp::Andi => "andi",
+            ImmediateOp::Ldi => "ldi",
+        }
     }
 }
 
-/// The mnemonic of an operation.
-fn wide(op: WideOp) -> &'static str {
-    match op {
-        WideOp::Adiw => "adiw",
-        WideOp::Sbiw => "sbiw",
+impl Named for WideOp {
+    fn name(self) -> &'static str {
+        match self {
+            WideOp::Adiw => "adiw",
+            WideOp::Sbiw => "sbiw",
+        }
     }
 }
 
-/// The mnemonic of an operation.
-fn unary(op: UnaryOp) -> &'static str {
-    match op {
-        UnaryOp::Neg => "neg",
-        UnaryOp::Inc => "inc",
-        UnaryOp::Lsr => "lsr",
-        UnaryOp::Ror => "ror",
-        UnaryOp::Dec => "dec",
+impl Named for UnaryOp {
+    fn name(self) -> &'static str {
+        match self {
+            UnaryOp::Neg => "neg",
+            UnaryOp::Inc => "inc",
+            UnaryOp::Lsr => "lsr",
+            UnaryOp::Ror => "ror",
+            UnaryOp::Dec => "dec",
+        }
     }
 }
 
-/// A pointer with its step.
-fn pointer(mode: Mode) -> &'static str {
-    match mode {
-        Mode::X => "X",
-        Mode::XInc => "X+",
-        Mode::XDec => "-X",
-        Mode::YInc => "Y+",
-        Mode::YDec => "-Y",
-        Mode::ZInc => "Z+",
-        Mode::ZDec => "-Z",
+impl Named for Mode {
+    fn name(self) -> &'static str {
+        match self {
+            Mode::X => "X",
+            Mode::XInc => "X+",
+            Mode::XDec => "-X",
+            Mode::YInc => "Y+",
+            Mode::YDec => "-Y",
+            Mode::ZInc => "Z+",
+            Mode::ZDec => "-Z",
+        }
     }
 }
 
-/// The pointer of a displaced access.
-fn start(base: Base) -> &'static str {
-    match base {
-        Base::Y => "Y",
-        Base::Z => "Z",
+impl Named for Base {
+    fn name(self) -> &'static str {
+        match self {
+            Base::Y => "Y",
+            Base::Z => "Z",
+        }
     }
 }
 
@@ -91,8 +103,7 @@ struct Register(u8);
 
 impl fmt::Display for Register {
     fn fmt<W: fmt::Write>(&self, f: &mut fmt::Formatter<W>) -> fmt::Result {
-        let number = self.0;
-        write!(f, "r{number}")
+        write!(f, "r{}", self.0)
     }
 }
 
@@ -102,23 +113,20 @@ struct Byte(u8);
 
 impl fmt::Display for Byte {
     fn fmt<W: fmt::Write>(&self, f: &mut fmt::Formatter<W>) -> fmt::Result {
-        let value = self.0;
-        write!(f, "0x{value:02X}")
+        write!(f, "0x{:02X}", self.0)
     }
 }
 
 /// A pointer, and what is added to it unless that is 0.
 #[derive(Clone, Copy)]
-struct Displaced(&'static str, u8);
+struct Displaced(Base, u8);
 
 impl fmt::Display for Displaced {
     fn fmt<W: fmt::Write>(&self, f: &mut fmt::Formatter<W>) -> fmt::Result {
-        let base = self.0;
-        let q = self.1;
-        if q == 0 {
-            write!(f, "{base}")
-        } else {
-            write!(f, "{base}+{q}")
+        let base = self.0.name();
+        match self.1 {
+            0 => f.write_str(base),
+            q => write!(f, "{base}+{q}"),
         }
     }
 }
@@ -129,9 +137,7 @@ struct Distance(i16);
 
 impl fmt::Display for Distance {
     fn fmt<W: fmt::Write>(&self, f: &mut fmt::Formatter<W>) -> fmt::Result {
-        let bytes = i32::from(self.0) * 2;
-        let sign = if bytes < 0 { "" } else { "+" };
-        write!(f, ".{sign}{bytes}")
+        write!(f, ".{:+}", i32::from(self.0) * 2)
     }
 }
 
@@ -142,50 +148,35 @@ pub struct Assembly(pub Instruction);
 impl fmt::Display for Assembly {
     fn fmt<W: fmt::Write>(&self, f: &mut fmt::Formatter<W>) -> fmt::Result {
         match self.0 {
-            Instruction::Binary { op, d, r } => two(f, binary(op), Register(d), Register(r)),
-            Instruction::Immediate { op, d, k } => two(f, immediate(op), Register(d), Byte(k)),
-            Instruction::Wide { op, d, k } => two(f, wide(op), Register(d), Byte(k)),
-            Instruction::Movw { d, r } => two(f, "movw", Register(d), Register(r)),
-            Instruction::Unary { op, d } => one(f, unary(op), Register(d)),
-            Instruction::Load { mode, d } => two(f, "ld", Register(d), pointer(mode)),
-            Instruction::Store { mode, r } => two(f, "st", pointer(mode), Register(r)),
-            Instruction::LoadDisplaced { base, q, d } => two(
-                f,
-                if q == 0 { "ld" } else { "ldd" },
-                Register(d),
-                Displaced(start(base), q),
-            ),
-            Instruction::StoreDisplaced { base, q, r } => two(
-                f,
-                if q == 0 { "st" } else { "std" },
-                Displaced(start(base), q),
-                Register(r),
-            ),
-            Instruction::Rjmp { k } => one(f, "rjmp", Distance(k)),
-            Instruction::Rcall { k } => one(f, "rcall", Distance(k)),
-            Instruction::Branch { flag, set, k } => one(f, branch(flag, set), Distance(k)),
+            Instruction::Binary { op, d, r } => {
+                write!(f, "{} {}, {}", op.name(), Register(d), Register(r))
+            }
+            Instruction::Immediate { op, d, k } => {
+                write!(f, "{} {}, {}", op.name(), Register(d), Byte(k))
+            }
+            Instruction::Wide { op, d, k } => {
+                write!(f, "{} {}, {}", op.name(), Register(d), Byte(k))
+            }
+            Instruction::Movw { d, r } => write!(f, "movw {}, {}", Register(d), Register(r)),
+            Instruction::Unary { op, d } => write!(f, "{} {}", op.name(), Register(d)),
+            Instruction::Load { mode, d } => write!(f, "ld {}, {}", Register(d), mode.name()),
+            Instruction::Store { mode, r } => write!(f, "st {}, {}", mode.name(), Register(r)),
+            Instruction::LoadDisplaced { base, q, d } => {
+                let mnemonic = if q == 0 { "ld" } else { "ldd" };
+                write!(f, "{mnemonic} {}, {}", Register(d), Displaced(base, q))
+            }
+            Instruction::StoreDisplaced { base, q, r } => {
+                let mnemonic = if q == 0 { "st" } else { "std" };
+                write!(f, "{mnemonic} {}, {}", Displaced(base, q), Register(r))
+            }
+            Instruction::Rjmp { k } => write!(f, "rjmp {}", Distance(k)),
+            Instruction::Rcall { k } => write!(f, "rcall {}", Distance(k)),
+            Instruction::Branch { flag, set, k } => {
+                write!(f, "{} {}", branch(flag, set), Distance(k))
+            }
             Instruction::Ret => f.write_str("ret"),
             Instruction::Clc => f.write_str("clc"),
             Instruction::Nop => f.write_str("nop"),
         }
     }
-}
-
-/// A mnemonic with one operand.
-fn one<W: fmt::Write, A: fmt::Display + Drop>(
-    f: &mut fmt::Formatter<W>,
-    mnemonic: &str,
-    a: A,
-) -> fmt::Result {
-    write!(f, "{mnemonic} {a}")
-}
-
-/// A mnemonic with two operands.
-fn two<W: fmt::Write, A: fmt::Display + Drop, B: fmt::Display + Drop>(
-    f: &mut fmt::Formatter<W>,
-    mnemonic: &str,
-    a: A,
-    b: B,
-) -> fmt::Result {
-    write!(f, "{mnemonic} {a}, {b}")
 }

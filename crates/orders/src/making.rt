@@ -5,10 +5,14 @@ ghost use Rattle.levels.specs.Faults.{refusal_of};
 ghost use Rattle.orders.specs.Simples.{meaning_of};
 ghost use Rattle.orders.specs.Written.{form_of, written_of};
 ghost use Rattle.orders.specs.Making.{making_of, making_written, made_meaning};
+ghost use Rattle.orders.specs.declared.making.Made.TheVariants.{Simple, Pair};
+ghost use Rattle.levels.specs.Parts.{pair_laws};
+ghost use Rattle.orders.specs.Lawful.{simple_laws};
 
 use crate::simple::Simple;
 use crate::written::{OrderText, SimpleText};
 use levels::fault::OrderFault;
+use levels::order::Order;
 use levels::pair::Pair;
 
 /// An order that was made.
@@ -18,6 +22,37 @@ pub enum Made {
     Simple(Simple),
     /// Two of these, side by side.
     Pair(Pair<Simple, Simple>),
+}
+
+// Each answer is the kind's own, as those of `Simple` are.
+impl Order for Made {
+    ghost meaning = { made_meaning };
+
+    ghost lawful = { elim [
+      | Simple o ↦ simple_laws o
+      | Pair o ↦ pair_laws _ _ (simple_laws o.first) (simple_laws o.second)
+    ] };
+
+    fn holds(&self, code: u16) -> bool {
+        match self {
+            Made::Simple(order) => order.holds(code),
+            Made::Pair(order) => order.holds(code),
+        }
+    }
+
+    fn flows(&self, a: u16, b: u16) -> bool {
+        match self {
+            Made::Simple(order) => order.flows(a, b),
+            Made::Pair(order) => order.flows(a, b),
+        }
+    }
+
+    fn join(&self, a: u16, b: u16) -> u16 {
+        match self {
+            Made::Simple(order) => order.join(a, b),
+            Made::Pair(order) => order.join(a, b),
+        }
+    }
 }
 
 impl SimpleText {

@@ -1,4 +1,5 @@
 pub mod Gathering
 pub mod Bytes
 pub mod Turns
+pub mod Counting
 pub mod Lawful

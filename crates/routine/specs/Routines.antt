@@ -7,7 +7,7 @@ use Rattle.routine.specs.declared.faults.Malformed.{Malformed}
 use Rattle.routine.specs.declared.faults.Malformed.TheVariants.{Misplaced, SecondOrder, NoOrder, MixedRows}
 use Rattle.routine.specs.declared.routines.Routine.{Routine}
 use Rattle.routine.specs.declared.routines.RowForm.{RowForm}
-use Rattle.routine.specs.declared.routines.RowForm.TheVariants.{Unwritten, Plain, Sparse}
+use Rattle.routine.specs.declared.routines.RowForm.TheVariants.{Plain, Sparse}
 use Rattle.routine.specs.declared.rows.Entry.{Entry}
 use Rattle.routine.specs.declared.rows.RowName.{RowName}
 use Rattle.routine.specs.declared.steps.Step.{Step}
@@ -22,7 +22,7 @@ pub record Draft : Type 0 where
   pub words : List ℕ
   pub order : Option Written
   pub rows : List ℕ
-  pub form : RowForm
+  pub form : Option RowForm
   pub steps : List Step
 
 -- what the code holds of it
@@ -37,7 +37,7 @@ draft_of r = record {
 
 -- nothing was said yet
 abbrev pub nothing : Draft
-nothing = record { words = []; order = None; rows = []; form = Unwritten; steps = [] }
+nothing = record { words = []; order = None; rows = []; form = None; steps = [] }
 
 abbrev pub with_words : Draft → List ℕ → Draft
 with_words d ws = record { words = d.words ++ ws; order = d.order; rows = d.rows; form = d.form; steps = d.steps }
@@ -46,34 +46,33 @@ abbrev pub with_order : Draft → Written → Draft
 with_order d w = record { words = d.words; order = Some w; rows = d.rows; form = d.form; steps = d.steps }
 
 abbrev pub with_rows : Draft → List ℕ → RowForm → Draft
-with_rows d rows form = record { words = d.words; order = d.order; rows = rows; form = form; steps = d.steps }
+with_rows d rows form = record { words = d.words; order = d.order; rows = rows; form = Some form; steps = d.steps }
 
 abbrev pub with_step : Draft → Step → Draft
 with_step d s = record { words = d.words; order = d.order; rows = d.rows; form = d.form; steps = d.steps ++ s ∷ [] }
 
 -- whether rows are written, and whether something is to be done already
-abbrev pub rows_begun : RowForm → Bool
-rows_begun Unwritten = false
-rows_begun Plain = true
-rows_begun Sparse = true
+abbrev pub rows_begun : Option RowForm → Bool
+rows_begun None = false
+rows_begun (Some form) = true
 
 abbrev pub started : Draft → Bool
 started d = not (length d.steps == 0)
 
 -- rows are written in one form
-abbrev pub plain_rows : Draft → List ℕ → RowForm → Result Draft Malformed
-plain_rows d ns Unwritten = Ok (with_rows d (d.rows ++ ns) Plain)
-plain_rows d ns Plain = Ok (with_rows d (d.rows ++ ns) Plain)
-plain_rows d ns Sparse = Err MixedRows
+abbrev pub plain_rows : Draft → List ℕ → Option RowForm → Result Draft Malformed
+plain_rows d ns None = Ok (with_rows d (d.rows ++ ns) Plain)
+plain_rows d ns (Some Plain) = Ok (with_rows d (d.rows ++ ns) Plain)
+plain_rows d ns (Some Sparse) = Err MixedRows
 
 -- row number a has these values, and what is not named is 0
 abbrev pub with_row : Draft → ℕ → List Entry → Draft
 with_row d a entries = with_rows d (rows_with (length d.words) a entries d.rows) Sparse
 
-abbrev pub sparse_row : Draft → RowName → List Entry → RowForm → Result Draft Malformed
-sparse_row d name entries Unwritten = results.result_map_both (λ a. with_row d a entries) (λ m. m) (number_of_row (length d.words) name)
-sparse_row d name entries Plain = Err MixedRows
-sparse_row d name entries Sparse = results.result_map_both (λ a. with_row d a entries) (λ m. m) (number_of_row (length d.words) name)
+abbrev pub sparse_row : Draft → RowName → List Entry → Option RowForm → Result Draft Malformed
+sparse_row d name entries None = results.result_map_both (λ a. with_row d a entries) (λ m. m) (number_of_row (length d.words) name)
+sparse_row d name entries (Some Plain) = Err MixedRows
+sparse_row d name entries (Some Sparse) = results.result_map_both (λ a. with_row d a entries) (λ m. m) (number_of_row (length d.words) name)
 
 -- words come first, then rows and at most one order, then the steps; to judge needs an order
 abbrev pub accepted : Draft → Stated → Result Draft Malformed

@@ -1,17 +1,16 @@
 -- What is to be done with a routine. Assumes nothing.
 use Rattle.std.specs.Prelude.{ℕ, Bool, true, false, [], ◌∷◌, Ok}
 use Rattle.routine.specs.declared.steps.Step.{Step}
-use Rattle.routine.specs.declared.steps.Step.TheVariants.{Judge, Clear, Put, Run, Read}
+use Rattle.routine.specs.declared.steps.Step.TheVariants as step
+use Rattle.avr.specs.declared.calls.Call.{Call}
+use Rattle.avr.specs.declared.calls.Call.TheVariants.{Clear, Put, Run, Read}
 use Rattle.routine.specs.Operands as operands
 use Rattle.routine.specs.Operands.{Tokens, and_next, number_in, place_in}
 
 -- a step judges, or it is a call on the boards
 abbrev pub judges : Step → Bool
-judges Judge = true
-judges Clear = false
-judges (Put place left right) = false
-judges (Run limit) = false
-judges (Read place) = false
+judges step.Judge = true
+judges (step.Call call) = false
 
 -- a second byte, if one is written, and else the first one again
 abbrev pub second_byte : ℕ → Tokens → operands.Read ℕ
@@ -19,20 +18,24 @@ second_byte first [] = Ok (first, [])
 second_byte first (token ∷ tokens) = number_in 0xFF (token ∷ tokens)
 
 abbrev pub judge_in : Tokens → operands.Read Step
-judge_in tokens = Ok (Judge, tokens)
+judge_in tokens = Ok (step.Judge, tokens)
 
-abbrev pub clear_in : Tokens → operands.Read Step
+-- a call on the boards
+abbrev pub call_by : operands.Read Call → operands.Read Step
+call_by reading = and_next reading (λ call rest. Ok (step.Call call, rest))
+
+abbrev pub clear_in : Tokens → operands.Read Call
 clear_in tokens = Ok (Clear, tokens)
 
 -- a place, and a byte for both boards or one for each
-abbrev pub put_in : Tokens → operands.Read Step
+abbrev pub put_in : Tokens → operands.Read Call
 put_in tokens =
     and_next (place_in tokens) (λ place rest.
     and_next (number_in 0xFF rest) (λ left more. and_next (second_byte left more) (λ right last. Ok (Put place left right, last))))
 
 -- a limit has 32 bits
-abbrev pub run_in : Tokens → operands.Read Step
+abbrev pub run_in : Tokens → operands.Read Call
 run_in tokens = and_next (number_in 0xFFFFFFFF tokens) (λ limit rest. Ok (Run limit, rest))
 
-abbrev pub read_in : Tokens → operands.Read Step
+abbrev pub read_in : Tokens → operands.Read Call
 read_in tokens = and_next (place_in tokens) (λ place rest. Ok (Read place, rest))

@@ -1,7 +1,7 @@
 //! Whole routine files.
-ghost use Rattle.std.specs.Prelude.{◌≡◌, Ok, MatchResult};
+ghost use Rattle.std.specs.Prelude.{◌≡◌, ◌≤◌, length, Ok, MatchResult};
 ghost use Rattle.routine.specs.declared.faults.Fault.TheVariants as fault;
-ghost use Rattle.text.specs.Lines.{line_left};
+ghost use Rattle.text.specs.Lines.{line_left, lines_of};
 ghost use Rattle.routine.specs.Routines.{draft_of};
 ghost use Rattle.routine.specs.Files.{after_line, routine_of};
 ghost use Rattle.routine.specs.Answers.{Blames, Makes, ReadsLines};
@@ -16,35 +16,40 @@ use text::{Line, Lines, is_text};
 pub fn read(heap: Global, file: &[u8]) -> Result<Routine, FileFault>
     ensures { MatchResult result (λ routine. routine_of file.now ≡ Ok (draft_of routine)) (λ f. Blames (λ m. (f.line, m)) f.fault (routine_of file.now)) }
 {
-    if let Err(bad) = is_text(file) {
-        return Err(malformed(bad.line, Malformed::BadByte(bad.byte)));
-    }
+    is_text(file).map_err(|bad| malformed(bad.line, Malformed::BadByte(bad.byte)))?;
     let mut routine = Routine::new(heap);
-    let count = read_lines(heap, file, &mut routine)?;
+    read_lines(heap, file, &mut routine)?;
     if routine.words.is_empty() {
-        return Err(malformed(count + 1, Malformed::NoWords));
+        return Err(malformed(count_lines(file) + 1, Malformed::NoWords));
     }
     Ok(routine)
 }
 
-/// Reads each line of a file, and answers how many there are.
-fn read_lines(heap: Global, file: &[u8], routine: &mut Routine) -> Result<usize, FileFault>
-    ensures { ReadsLines result (draft_of routine.old) (draft_of routine.new) file.now }
+/// How many lines a file has.
+fn count_lines(file: &[u8]) -> usize
+    ensures value { result ≡ length (lines_of file.now) }
+    ensures within { result ≤ length file.now }
 {
-    let mut count = 0usize;
-    let mut lines = Lines::new(file);
-    while let Some(line) = lines.next_line() {
-        count += 1;
-        if let Err(fault) = read_line(heap, line, routine) {
-            return Err(FileFault { line: count, fault });
-        }
+    Lines::new(file).count()
+}
+
+/// Reads each line of a file.
+fn read_lines(heap: Global, file: &[u8], routine: &mut Routine) -> Result<(), FileFault>
+    ensures { ReadsLines result routine.old routine.new file.now }
+{
+    for (before, line) in Lines::new(file).enumerate() {
+        let number = before + 1;
+        read_line(heap, line, routine).map_err(|fault| FileFault {
+            line: number,
+            fault,
+        })?;
     }
-    Ok(count)
+    Ok(())
 }
 
 /// Reads a line.
 fn read_line(heap: Global, line: Line<'_>, routine: &mut Routine) -> Result<(), Fault>
-    ensures { Makes result (draft_of routine.new) (after_line (draft_of routine.old) (line_left line.entry)) }
+    ensures { Makes result routine.old routine.new (λ d. after_line d (line_left line.entry)) }
 {
     match read_statement(heap, line)? {
         Some(statement) => routine.accept(statement),

@@ -1,6 +1,7 @@
 //! Keywords: the first token of a line says what kind of statement the line holds, and the first of an order what kind of order.
+// Two matches, and no function over a table of names that both would search: a match is plainer than its table. And no TryFrom,
+// which would refuse where whoever asks only wants to know.
 ghost use Rattle.std.specs.Prelude.{◌≡◌};
-ghost use Rattle.std.specs.Str.{bytes_eq};
 ghost use Rattle.routine.specs.Keywords.{keyword_of, kind_of, names_pair};
 
 /// The kinds of statements.
@@ -36,60 +37,44 @@ pub enum Kind {
 
 impl Keyword {
     /// The keyword that a token is, if it is one.
+    #[tactic(auto, unfolding(crate::specs::Keywords::keyword_of))]
     pub fn from_token(token: &[u8]) -> Option<Keyword>
         ensures { result ≡ keyword_of token.now }
     {
-        if is(token, "words") {
-            Some(Keyword::Words)
-        } else if is(token, "order") {
-            Some(Keyword::Order)
-        } else if is(token, "rows") {
-            Some(Keyword::Rows)
-        } else if is(token, "row") {
-            Some(Keyword::Row)
-        } else if is(token, "judge") {
-            Some(Keyword::Judge)
-        } else if is(token, "clear") {
-            Some(Keyword::Clear)
-        } else if is(token, "put") {
-            Some(Keyword::Put)
-        } else if is(token, "run") {
-            Some(Keyword::Run)
-        } else if is(token, "read") {
-            Some(Keyword::Read)
-        } else {
-            None
+        match token {
+            b"words" => Some(Keyword::Words),
+            b"order" => Some(Keyword::Order),
+            b"rows" => Some(Keyword::Rows),
+            b"row" => Some(Keyword::Row),
+            b"judge" => Some(Keyword::Judge),
+            b"clear" => Some(Keyword::Clear),
+            b"put" => Some(Keyword::Put),
+            b"run" => Some(Keyword::Run),
+            b"read" => Some(Keyword::Read),
+            _ => None,
         }
     }
 }
 
 impl Kind {
     /// The kind of order that a token names, if it names one.
+    #[tactic(auto, unfolding(crate::specs::Keywords::kind_of))]
     pub(crate) fn from_token(token: &[u8]) -> Option<Kind>
         ensures { result ≡ kind_of token.now }
     {
-        if is(token, "chain") {
-            Some(Kind::Chain)
-        } else if is(token, "compartments") {
-            Some(Kind::Compartments)
-        } else if is(token, "table") {
-            Some(Kind::Table)
-        } else {
-            None
+        match token {
+            b"chain" => Some(Kind::Chain),
+            b"compartments" => Some(Kind::Compartments),
+            b"table" => Some(Kind::Table),
+            _ => None,
         }
     }
 }
 
 /// Whether a token announces an order that is made of two.
+#[tactic(auto, unfolding(crate::specs::Keywords::names_pair))]
 pub(crate) fn is_pair(token: &[u8]) -> bool
     ensures { result ≡ names_pair token.now }
 {
-    is(token, "pair")
-}
-
-/// Whether a token is this text.
-pub(crate) fn is(token: &[u8], text: &str) -> bool
-    ensures { result ≡ bytes_eq token.now text.now }
-{
-    token == text.as_bytes()
+    matches!(token, b"pair")
 }

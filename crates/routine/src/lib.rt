@@ -1,6 +1,6 @@
 //! The statements of a routine file, one a line, and the routine that they make.
 //!
-//! It may use the tokens of `text`, the layout of `row_layout`, the descriptions of `orders` and the locations of a chip. It carries nothing
+//! It may use the tokens of `text`, the layout of `row_layout`, the descriptions of `orders` and the calls of `avr`. It carries nothing
 //! out and judges nothing: what a file asks for is for the program. docs/FORMAT.md has the rules in words.
 #![tactic(auto)]
 
@@ -12,6 +12,7 @@ mod laws;
 mod operands;
 mod routines;
 mod rows;
+mod sizes;
 mod statements;
 mod steps;
 

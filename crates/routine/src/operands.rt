@@ -1,100 +1,71 @@
 //! What the tokens of a statement say, read from the first on.
-ghost use Rattle.std.specs.Prelude.{◌≡◌, ◌≤◌, length, IfOk, vec_items, ◌==◌};
+ghost use Rattle.std.specs.Prelude.{◌≡◌, vec_items, ◌==◌, length};
+ghost use Rattle.std.specs.Fn.{FnReturnsAt};
 ghost use Rattle.std.specs.Option as options;
-ghost use Rattle.text.specs.Lines.{line_left};
-ghost use Rattle.text.specs.Tokens.{tokens_of};
+ghost use Rattle.std.specs.Result.{result_map_both};
+ghost use Rattle.text.specs.Tokens.{tokens_left};
 ghost use Rattle.routine.specs.Gathered.{gathered};
-ghost use Rattle.routine.specs.Operands.{number_as, number_in, word_of, words_of, digits_of_register, place_of, place_in, no_more};
-ghost use Rattle.routine.specs.Answers.{Answers, Finds};
+ghost use Rattle.routine.specs.Operands.{number_as, number_in, words_of, digits_of_register, place_of, place_in, no_more};
+ghost use Rattle.routine.specs.Answers.{Answers, Finds, Says};
 
 use crate::faults::{Fault, Malformed};
+use crate::sizes::Number;
 use avr::location::Location;
 use std::alloc::Global;
 use text::{Line, NumberFault, number};
 
-/// The largest number of 16 bits.
-const MOST_WORD: u32 = 0xFFFF;
-
-/// The largest byte.
-const MOST_BYTE: u32 = 0xFF;
-
-/// The number from 0 to `most` that a token writes.
-pub(crate) fn number_of(token: &[u8], most: u32) -> Result<u32, Malformed>
-    ensures value { result ≡ number_as most token.now }
-    ensures within { IfOk result (λ n. n ≤ most) }
+/// The number that a token writes.
+#[tactic(auto, unfolding(crate::specs::Operands::number_as))]
+pub(crate) fn number_of<N: Number>(token: &[u8]) -> Result<N, Malformed>
+    ensures { result_map_both N.value (λ m. m) result ≡ number_as N.MOST token.now }
 {
-    match number(token, most) {
-        Ok(value) => Ok(value),
-        Err(NumberFault::NoNumber) => Err(Malformed::NoNumber { most }),
-        Err(NumberFault::TooLarge) => Err(Malformed::TooLarge { most }),
+    let value = number(token, N::MOST).map_err(|fault| match fault {
+        NumberFault::NoNumber => Malformed::NoNumber { most: N::MOST },
+        NumberFault::TooLarge => Malformed::TooLarge { most: N::MOST },
+    })?;
+    Ok(N::from_number(value))
+}
+
+/// The number that a line goes on with.
+pub(crate) fn read_number<N: Number>(line: &mut Line<'_>) -> Result<N, Malformed>
+    ensures { Finds N.value result (number_in N.MOST) line.old line.new }
+{
+    let token = line.next().ok_or(Malformed::NoNumber { most: N::MOST })?;
+    number_of(token)
+}
+
+/// What each token of a line says, or what the first that is malformed is blamed for.
+// The heap goes with a line only where something is allocated.
+pub(crate) fn gather<T: Drop, F: Fn(&[u8]) -> Result<T, Malformed>>(
+    heap: Global,
+    line: Line<'_>,
+    read: F,
+) -> Result<Vec<T>, Fault>
+    requires { F.IsAlwaysCallable read }
+    ensures { (says : _) → Says (FnReturnsAt F.Fn read) says → Answers vec_items result (gathered says) line.entry }
+{
+    let mut values = Vec::new(heap);
+    for token in line {
+        values.push(read(token)?)?;
     }
-}
-
-/// The byte that a token writes.
-pub(crate) fn byte_of(token: &[u8]) -> Result<u8, Malformed>
-    ensures { result ≡ number_as 0xFF token.now }
-{
-    Ok(number_of(token, MOST_BYTE)? as u8)
-}
-
-/// The word that a token writes.
-pub(crate) fn word_of(token: &[u8]) -> Result<u16, Malformed>
-    ensures { result ≡ word_of token.now }
-{
-    Ok(number_of(token, MOST_WORD)? as u16)
-}
-
-/// The number from 0 to `most` that a line goes on with.
-pub(crate) fn read_number(line: &mut Line<'_>, most: u32) -> Result<u32, Malformed>
-    ensures found { Finds result (tokens_of (line_left line.new)) (number_in most (tokens_of (line_left line.old))) }
-    ensures within { IfOk result (λ n. n ≤ most) }
-{
-    let Some(token) = line.token() else {
-        return Err(Malformed::NoNumber { most });
-    };
-    number_of(token, most)
-}
-
-/// The byte that a line goes on with.
-pub(crate) fn read_byte(line: &mut Line<'_>) -> Result<u8, Malformed>
-    ensures { Finds result (tokens_of (line_left line.new)) (number_in 0xFF (tokens_of (line_left line.old))) }
-{
-    Ok(read_number(line, MOST_BYTE)? as u8)
-}
-
-/// The number of 16 bits that a line goes on with.
-pub(crate) fn read_size(line: &mut Line<'_>) -> Result<u16, Malformed>
-    ensures { Finds result (tokens_of (line_left line.new)) (number_in 0xFFFF (tokens_of (line_left line.old))) }
-{
-    Ok(read_number(line, MOST_WORD)? as u16)
+    Ok(values)
 }
 
 /// The numbers of a line, which has one at least.
 pub(crate) fn read_words(heap: Global, line: Line<'_>) -> Result<Vec<u16>, Fault>
-    ensures { Answers vec_items result (words_of (tokens_of (line_left line.entry))) }
+    ensures { Answers vec_items result words_of line.entry }
 {
     if is_empty(line) {
-        return Err(Fault::Malformed(Malformed::NoOperands));
+        return Err(Malformed::NoOperands.into());
     }
-    gather_words(heap, line)
+    gather(heap, line, number_of)
 }
 
 /// Whether no token is left.
-fn is_empty(mut line: Line<'_>) -> bool
-    ensures { result ≡ (length (tokens_of (line_left line.entry)) == 0) }
+pub(crate) fn is_empty(mut line: Line<'_>) -> bool
+    ensures { result ≡ (length (tokens_left line.entry) == 0) }
 {
-    line.token().is_none()
-}
-
-/// The numbers of a line.
-fn gather_words(heap: Global, mut line: Line<'_>) -> Result<Vec<u16>, Fault>
-    ensures { Answers vec_items result (gathered word_of (tokens_of (line_left line.entry))) }
-{
-    let mut words = Vec::new(heap);
-    while let Some(token) = line.token() {
-        words.push(word_of(token)?)?;
-    }
-    Ok(words)
+    line.next().is_none()
 }
 
 /// What follows the letter `r`, if a token begins with it.
@@ -108,34 +79,28 @@ pub(crate) fn register_digits(token: &[u8]) -> Option<&[u8]>
 }
 
 /// The place that a token names.
+#[tactic(auto, unfolding(crate::specs::Operands::place_of))]
 fn place_of(token: &[u8]) -> Result<Location, Malformed>
     ensures { result ≡ place_of token.now }
 {
-    if let Some(digits) = register_digits(token) {
-        return match number(digits, MOST_BYTE) {
-            Ok(register) => Ok(Location::Register(register as u8)),
-            Err(_) => Err(Malformed::NoPlace),
-        };
-    }
-    match number(token, MOST_WORD) {
-        Ok(address) => Ok(Location::Memory(address as u16)),
-        Err(_) => Err(Malformed::NoPlace),
-    }
+    // By `number` and casts: with `number_of`, whose faults are named once more on the way, the proof stayed open.
+    let place = match register_digits(token) {
+        Some(digits) => number(digits, u8::MOST).map(|n| Location::Register(n as u8)),
+        None => number(token, u16::MOST).map(|n| Location::Memory(n as u16)),
+    };
+    place.map_err(|_| Malformed::NoPlace)
 }
 
 /// The place that a line goes on with.
 pub(crate) fn read_place(line: &mut Line<'_>) -> Result<Location, Malformed>
-    ensures { Finds result (tokens_of (line_left line.new)) (place_in (tokens_of (line_left line.old))) }
+    ensures { Finds (λ x. x) result place_in line.old line.new }
 {
-    let Some(token) = line.token() else {
-        return Err(Malformed::NoPlace);
-    };
-    place_of(token)
+    place_of(line.next().ok_or(Malformed::NoPlace)?)
 }
 
 /// Whether a statement ends here, as it should.
 pub(crate) fn end(line: Line<'_>) -> Result<(), Malformed>
-    ensures { result ≡ no_more tt (tokens_of (line_left line.entry)) }
+    ensures { result ≡ no_more tt (tokens_left line.entry) }
 {
     if is_empty(line) {
         Ok(())

@@ -2,7 +2,7 @@
 ghost use Rattle.std.specs.Prelude.{◌≡◌, Ok};
 ghost use Rattle.orders.specs.Written.{written_of};
 ghost use Rattle.routine.specs.Statements.{stated_of, words as said_words, order as said_order, rows as said_rows, row as said_row, step as said_step};
-ghost use Rattle.routine.specs.Routines.{draft_of, nothing, rows_begun, started, with_row, accepted};
+ghost use Rattle.routine.specs.Routines.{draft_of, nothing, started, with_row, accepted};
 ghost use Rattle.routine.specs.Answers.{Makes};
 
 use crate::faults::{Fault, Malformed};
@@ -15,24 +15,10 @@ use std::alloc::Global;
 /// How the rows of a file are written.
 #[derive(Clone, Copy)]
 pub enum RowForm {
-    /// Not yet, or not at all.
-    Unwritten,
     /// As plain numbers.
     Plain,
     /// By name, row by row.
     Sparse,
-}
-
-impl RowForm {
-    /// Whether some row is written.
-    fn has_begun(self) -> bool
-        ensures { result ≡ rows_begun self }
-    {
-        match self {
-            RowForm::Unwritten => false,
-            RowForm::Plain | RowForm::Sparse => true,
-        }
-    }
 }
 
 /// What a file says of a routine.
@@ -44,8 +30,8 @@ pub struct Routine {
     pub order: Option<OrderText>,
     /// The numbers of its rows.
     pub rows: Vec<u16>,
-    /// How the rows are written.
-    pub form: RowForm,
+    /// How the rows are written, once some are.
+    pub form: Option<RowForm>,
     /// What is to be done with it, in order.
     pub steps: Vec<Step>,
 }
@@ -59,7 +45,7 @@ impl Routine {
             words: Vec::new(heap),
             order: None,
             rows: Vec::new(heap),
-            form: RowForm::Unwritten,
+            form: None,
             steps: Vec::new(heap),
         }
     }
@@ -73,7 +59,7 @@ impl Routine {
 
     /// Takes one statement more.
     pub(crate) fn accept(&mut self, statement: Statement) -> Result<(), Fault>
-        ensures { Makes result (draft_of self.new) (accepted (draft_of self.old) (stated_of statement)) }
+        ensures { Makes result self.old self.new (λ d. accepted d (stated_of statement)) }
     {
         match statement {
             Statement::Words(words) => self.add_words(words),
@@ -86,24 +72,25 @@ impl Routine {
 
     /// Appends words, which come before all else.
     fn add_words(&mut self, words: Vec<u16>) -> Result<(), Fault>
-        ensures { Makes result (draft_of self.new) (accepted (draft_of self.old) (said_words words.items)) }
+        ensures { Makes result self.old self.new (λ d. accepted d (said_words words.items)) }
     {
-        if self.order.is_some() || self.form.has_begun() || self.has_started() {
-            return Err(Fault::Malformed(Malformed::Misplaced));
+        if self.order.is_some() || self.form.is_some() || self.has_started() {
+            return Err(Malformed::Misplaced.into());
         }
         self.words.extend_from_slice(words.as_slice())?;
         Ok(())
     }
 
     /// Sets the order, which comes before the steps.
+    // Three statements begin with this test and go on with their own: a function for it would have to be asked with `?` all the same.
     fn set_order(&mut self, order: OrderText) -> Result<(), Fault>
-        ensures { Makes result (draft_of self.new) (accepted (draft_of self.old) (said_order (written_of order))) }
+        ensures { Makes result self.old self.new (λ d. accepted d (said_order (written_of order))) }
     {
         if self.has_started() {
-            return Err(Fault::Malformed(Malformed::Misplaced));
+            return Err(Malformed::Misplaced.into());
         }
         if self.order.is_some() {
-            return Err(Fault::Malformed(Malformed::SecondOrder));
+            return Err(Malformed::SecondOrder.into());
         }
         self.order = Some(order);
         Ok(())
@@ -111,30 +98,28 @@ impl Routine {
 
     /// Appends plain numbers of rows, which come before the steps.
     fn add_rows(&mut self, numbers: Vec<u16>) -> Result<(), Fault>
-        ensures { Makes result (draft_of self.new) (accepted (draft_of self.old) (said_rows numbers.items)) }
+        ensures { Makes result self.old self.new (λ d. accepted d (said_rows numbers.items)) }
     {
         if self.has_started() {
-            return Err(Fault::Malformed(Malformed::Misplaced));
+            return Err(Malformed::Misplaced.into());
         }
-        match self.form {
-            RowForm::Sparse => return Err(Fault::Malformed(Malformed::MixedRows)),
-            RowForm::Unwritten | RowForm::Plain => {}
+        if matches!(self.form, Some(RowForm::Sparse)) {
+            return Err(Malformed::MixedRows.into());
         }
         self.rows.extend_from_slice(numbers.as_slice())?;
-        self.form = RowForm::Plain;
+        self.form = Some(RowForm::Plain);
         Ok(())
     }
 
     /// Writes values of a row, which come before the steps.
     fn add_row(&mut self, name: RowName, entries: Vec<Entry>) -> Result<(), Fault>
-        ensures { Makes result (draft_of self.new) (accepted (draft_of self.old) (said_row name entries.items)) }
+        ensures { Makes result self.old self.new (λ d. accepted d (said_row name entries.items)) }
     {
         if self.has_started() {
-            return Err(Fault::Malformed(Malformed::Misplaced));
+            return Err(Malformed::Misplaced.into());
         }
-        match self.form {
-            RowForm::Plain => return Err(Fault::Malformed(Malformed::MixedRows)),
-            RowForm::Unwritten | RowForm::Sparse => {}
+        if matches!(self.form, Some(RowForm::Plain)) {
+            return Err(Malformed::MixedRows.into());
         }
         let row = row_number(self.words.len(), name)?;
         self.write_row(row, entries.as_slice())
@@ -142,29 +127,23 @@ impl Routine {
 
     /// Writes values of a row that there is. Rows that are not written yet are 0.
     fn write_row(&mut self, row: usize, entries: &[Entry]) -> Result<(), Fault>
-        ensures { Makes result (draft_of self.new) (Ok (with_row (draft_of self.old) row entries.now)) }
+        ensures { Makes result self.old self.new (λ d. Ok (with_row d row entries.now)) }
     {
-        let Some(count) = self.words.len().checked_add(1) else {
-            return Err(Fault::NoMemory);
-        };
-        let Some(size) = count.checked_mul(ROW_WIDTH) else {
-            return Err(Fault::NoMemory);
-        };
-        let Some(start) = row.checked_mul(ROW_WIDTH) else {
-            return Err(Fault::NoMemory);
-        };
+        let count = self.words.len().checked_add(1).ok_or(Fault::NoMemory)?;
+        let size = count.checked_mul(ROW_WIDTH).ok_or(Fault::NoMemory)?;
+        let start = row.checked_mul(ROW_WIDTH).ok_or(Fault::NoMemory)?;
         self.rows.resize(size, 0)?;
         write_entries(&mut self.rows, start, entries);
-        self.form = RowForm::Sparse;
+        self.form = Some(RowForm::Sparse);
         Ok(())
     }
 
     /// Appends a step; one that judges comes behind the order.
     fn add_step(&mut self, step: Step) -> Result<(), Fault>
-        ensures { Makes result (draft_of self.new) (accepted (draft_of self.old) (said_step step)) }
+        ensures { Makes result self.old self.new (λ d. accepted d (said_step step)) }
     {
         if step.is_judge() && self.order.is_none() {
-            return Err(Fault::Malformed(Malformed::NoOrder));
+            return Err(Malformed::NoOrder.into());
         }
         self.steps.push(step)?;
         Ok(())

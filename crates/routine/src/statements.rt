@@ -1,7 +1,5 @@
 //! The statement of one line.
 ghost use Rattle.std.specs.Option as options;
-ghost use Rattle.text.specs.Lines.{line_left};
-ghost use Rattle.text.specs.Tokens.{tokens_of};
 ghost use Rattle.std.specs.Prelude.{Some};
 ghost use Rattle.routine.specs.Statements.{stated_of, statement_of, line_of};
 ghost use Rattle.routine.specs.Answers.{Answers};
@@ -12,6 +10,7 @@ use crate::keywords::Keyword;
 use crate::operands::{end, read_words};
 use crate::rows::{Entry, RowName, read_row};
 use crate::steps::{Step, read_put, read_read, read_run};
+use avr::calls::Call;
 use orders::written::OrderText;
 use std::alloc::Global;
 use text::Line;
@@ -33,21 +32,19 @@ pub enum Statement {
 
 /// The statement of a line, if the line has one.
 pub fn read_statement(heap: Global, mut line: Line<'_>) -> Result<Option<Statement>, Fault>
-    ensures { Answers (options.option_map stated_of) result (line_of (tokens_of (line_left line.entry))) }
+    ensures { Answers (options.option_map stated_of) result line_of line.entry }
 {
-    let Some(token) = line.token() else {
+    let Some(token) = line.next() else {
         return Ok(None);
     };
-    let Some(keyword) = Keyword::from_token(token) else {
-        return Err(Fault::Malformed(Malformed::UnknownStatement));
-    };
+    let keyword = Keyword::from_token(token).ok_or(Malformed::UnknownStatement)?;
     let statement = read_operands(heap, keyword, line)?;
     Ok(Some(statement))
 }
 
 /// The statement of a keyword, by the tokens behind it.
 fn read_operands(heap: Global, keyword: Keyword, mut line: Line<'_>) -> Result<Statement, Fault>
-    ensures { Answers stated_of result (statement_of (Some keyword) (tokens_of (line_left line.entry))) }
+    ensures { Answers stated_of result (statement_of (Some keyword)) line.entry }
 {
     let step = match keyword {
         Keyword::Words => return Ok(Statement::Words(read_words(heap, line)?)),
@@ -58,10 +55,10 @@ fn read_operands(heap: Global, keyword: Keyword, mut line: Line<'_>) -> Result<S
             return Ok(Statement::Row { name, entries });
         }
         Keyword::Judge => Step::Judge,
-        Keyword::Clear => Step::Clear,
-        Keyword::Put => read_put(&mut line)?,
-        Keyword::Run => read_run(&mut line)?,
-        Keyword::Read => read_read(&mut line)?,
+        Keyword::Clear => Step::Call(Call::Clear),
+        Keyword::Put => Step::Call(read_put(&mut line)?),
+        Keyword::Run => Step::Call(read_run(&mut line)?),
+        Keyword::Read => Step::Call(read_read(&mut line)?),
     };
     end(line)?;
     Ok(Statement::Step(step))

@@ -1,36 +1,20 @@
 //! Steps: what is to be done with a routine.
 ghost use Rattle.std.specs.Prelude.{◌≡◌};
-ghost use Rattle.text.specs.Lines.{line_left};
-ghost use Rattle.text.specs.Tokens.{tokens_of};
 ghost use Rattle.routine.specs.Steps.{judges, second_byte, put_in, run_in, read_in};
 ghost use Rattle.routine.specs.Answers.{Finds};
 
 use crate::faults::Malformed;
-use crate::operands::{read_byte, read_number, read_place};
-use avr::location::Location;
+use crate::operands::{is_empty, read_number, read_place};
+use avr::calls::Call;
 use text::Line;
 
-/// A judgement, or a call that both boards of a couple are given.
+/// What is to be done.
 #[derive(Clone, Copy)]
 pub enum Step {
     /// The routine is judged.
     Judge,
-    /// Everything is 0 again.
-    Clear,
-    /// A byte is put at a place, on the left board and on the right one.
-    Put {
-        location: Location,
-        left: u8,
-        right: u8,
-    },
-    /// The boards run up to a limit of cycles.
-    Run {
-        limit: u32,
-    },
-    /// The byte at a place is read.
-    Read {
-        location: Location,
-    },
+    /// Both boards of a couple are given a call.
+    Call(Call),
 }
 
 impl Step {
@@ -38,33 +22,28 @@ impl Step {
     pub(crate) fn is_judge(self) -> bool
         ensures { result ≡ judges self }
     {
-        match self {
-            Step::Judge => true,
-            Step::Clear | Step::Put { .. } | Step::Run { .. } | Step::Read { .. } => false,
-        }
+        matches!(self, Step::Judge)
     }
 }
 
 /// The second byte of a put: the first again, where none is written.
 fn read_second(line: &mut Line<'_>, first: u8) -> Result<u8, Malformed>
-    ensures { Finds result (tokens_of (line_left line.new)) (second_byte first (tokens_of (line_left line.old))) }
+    ensures { Finds (λ x. x) result (second_byte first) line.old line.new }
 {
-    let mut ahead = *line;
-    if ahead.token().is_none() {
-        let _ = line.token();
+    if is_empty(*line) {
         return Ok(first);
     }
-    read_byte(line)
+    read_number(line)
 }
 
 /// A put, behind its keyword.
-pub(crate) fn read_put(line: &mut Line<'_>) -> Result<Step, Malformed>
-    ensures { Finds result (tokens_of (line_left line.new)) (put_in (tokens_of (line_left line.old))) }
+pub(crate) fn read_put(line: &mut Line<'_>) -> Result<Call, Malformed>
+    ensures { Finds (λ x. x) result put_in line.old line.new }
 {
     let location = read_place(line)?;
-    let left = read_byte(line)?;
+    let left = read_number(line)?;
     let right = read_second(line, left)?;
-    Ok(Step::Put {
+    Ok(Call::Put {
         location,
         left,
         right,
@@ -72,17 +51,17 @@ pub(crate) fn read_put(line: &mut Line<'_>) -> Result<Step, Malformed>
 }
 
 /// A run, behind its keyword.
-pub(crate) fn read_run(line: &mut Line<'_>) -> Result<Step, Malformed>
-    ensures { Finds result (tokens_of (line_left line.new)) (run_in (tokens_of (line_left line.old))) }
+pub(crate) fn read_run(line: &mut Line<'_>) -> Result<Call, Malformed>
+    ensures { Finds (λ x. x) result run_in line.old line.new }
 {
-    let limit = read_number(line, u32::MAX)?;
-    Ok(Step::Run { limit })
+    let limit = read_number(line)?;
+    Ok(Call::Run { limit })
 }
 
 /// A read, behind its keyword.
-pub(crate) fn read_read(line: &mut Line<'_>) -> Result<Step, Malformed>
-    ensures { Finds result (tokens_of (line_left line.new)) (read_in (tokens_of (line_left line.old))) }
+pub(crate) fn read_read(line: &mut Line<'_>) -> Result<Call, Malformed>
+    ensures { Finds (λ x. x) result read_in line.old line.new }
 {
     let location = read_place(line)?;
-    Ok(Step::Read { location })
+    Ok(Call::Read { location })
 }

@@ -6,6 +6,7 @@ ghost use Rattle.secrecy.specs.Rows.{columns};
 ghost use Rattle.row_layout.specs.Columns.{index_of, column_at};
 
 use avr::table::{CARRY, MEMORY, ZERO};
+use std::fmt;
 
 /// How many places there are: the first columns of a row hold a level for each.
 pub const PLACES: u16 = MEMORY + 1;
@@ -41,6 +42,24 @@ pub enum Column {
     Function,
 }
 
+/// Its name.
+// By hand: the kit derives texts for errors only, and a column is none.
+impl fmt::Display for Column {
+    fn fmt<W: fmt::Write>(&self, f: &mut fmt::Formatter<W>) -> fmt::Result {
+        match self {
+            Column::Register(register) => write!(f, "r{register}"),
+            Column::Carry => f.write_str("c"),
+            Column::Zero => f.write_str("z"),
+            Column::Memory => f.write_str("memory"),
+            Column::Region => f.write_str("region"),
+            Column::Join => f.write_str("join"),
+            Column::Remaining => f.write_str("remaining"),
+            Column::Function => f.write_str("function"),
+        }
+    }
+}
+
+// Methods and no `From` and `TryFrom`: the number is where a column stands, and `usize::from(column)` would not say so.
 impl Column {
     /// Where it stands in its row.
     pub fn index(self) -> usize

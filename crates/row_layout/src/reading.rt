@@ -1,11 +1,15 @@
-//! Reading the numbers of rows.
-ghost use Rattle.std.specs.Prelude.{◌≡◌};
+//! Reading routines: the words, and the numbers of their rows.
+ghost use Rattle.std.specs.Prelude.{◌≡◌, length};
+ghost use Rattle.avr.specs.Chip.{instruction_of};
 ghost use Rattle.secrecy.specs.Rows.{cell as cell_of};
+ghost use Rattle.row_layout.specs.Views.{seen};
 
-use crate::layout::COLUMNS;
+use crate::layout::{COLUMNS, FUNCTION, JOIN, PLACES, REGION, REMAINING};
+use words::instruction::Instruction;
 
 /// The number in one column of one row, where the rows are those of `words` words and the finish row. Past the finish row, and
 /// where numbers are missing, there is 0.
+// Beside the view's method, for whoever has the count of the words and not the words.
 pub fn cell(words: usize, rows: &[u16], row: u32, column: u16) -> u16
     ensures { result ≡ cell_of words rows.now row column }
 {
@@ -13,5 +17,70 @@ pub fn cell(words: usize, rows: &[u16], row: u32, column: u16) -> u16
         return 0;
     }
     let index = row as usize * COLUMNS + usize::from(column);
-    if index < rows.len() { rows[index] } else { 0 }
+    rows.get(index).copied().unwrap_or(0)
+}
+
+/// A routine as it is lent: its words, and the numbers of its rows, one row for each word and after them the finish row. Any words and
+/// any numbers may be read: past the last word there is a nop, and past the finish row, past the last place and where numbers are
+/// missing, there is 0.
+#[derive(Clone, Copy)]
+pub struct RoutineView<'a> {
+    pub words: &'a [u16],
+    pub rows: &'a [u16],
+}
+
+impl RoutineView<'_> {
+    /// The instruction at an address.
+    pub fn instruction(&self, at: u16) -> Instruction
+        ensures { result ≡ instruction_of self.now.words.now at }
+    {
+        let word = self.words.get(usize::from(at)).copied().unwrap_or(0);
+        Instruction::decode(word).unwrap_or(Instruction::Nop)
+    }
+
+    /// The number in one column of one row.
+    pub fn cell(&self, row: u32, column: u16) -> u16
+        ensures { result ≡ cell_of (length self.now.words.now) self.now.rows.now row column }
+    {
+        cell(self.words.len(), self.rows, row, column)
+    }
+
+    /// The level of a place in a row.
+    pub fn level(&self, row: u32, place: u16) -> u16
+        ensures { result ≡ (seen self.now).level row place }
+    {
+        if place < PLACES {
+            self.cell(row, place)
+        } else {
+            0
+        }
+    }
+
+    /// The region level of a row.
+    pub fn region(&self, row: u32) -> u16
+        ensures { result ≡ (seen self.now).region row }
+    {
+        self.cell(row, REGION)
+    }
+
+    /// The join address of a row.
+    pub fn meets(&self, row: u32) -> u16
+        ensures { result ≡ (seen self.now).meets row }
+    {
+        self.cell(row, JOIN)
+    }
+
+    /// The cycles that remain from a row to its join address: none outside every region.
+    pub fn remaining(&self, row: u32) -> u16
+        ensures { result ≡ (seen self.now).remaining row }
+    {
+        self.cell(row, REMAINING)
+    }
+
+    /// The function that a row belongs to.
+    pub fn function(&self, row: u32) -> u16
+        ensures { result ≡ (seen self.now).function row }
+    {
+        self.cell(row, FUNCTION)
+    }
 }

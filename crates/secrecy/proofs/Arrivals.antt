@@ -13,8 +13,8 @@ use Rattle.secrecy.specs.Regions.{Reaches, stands, goes, Takes}
 
 -- Where a word leads does not hang on the limit, if only it is not passed.
 moves_by : {B : Type 0} (s u v : State B) (e f : Ending) (x y : Bool) (go : Step B) → cond x (stops s e) go ≡ moves u → cond y (stops s f) go ≡ moves v → u ≡ v
-moves_by s u v e f true y go p q = let z : ◌≡◌ {A = ℕ} 0 1 = cc in absurd (omega arith)
-moves_by s u v e f false true go p q = let z : ◌≡◌ {A = ℕ} 0 1 = cc in absurd (omega arith)
+moves_by s u v e f true y go p q = absurd (cc)
+moves_by s u v e f false true go p q = absurd (cc)
 moves_by s u v e f false false go p q = cc
 
 module _ {B V W : Type 0} (M : Machine B V W) where

@@ -53,7 +53,7 @@ never k f other = (λ e c i. absurd (other c i), λ h. refl)
 
 -- at any word
 pub says_calls : {Q : Type 0} (k : Kind) (f : ℕ) (v : Verdict) → Says v Q → Says (only_if (calls_to k f) v) ((c : ℕ) → k ≡ calls f c → Q)
-says_calls (plain b c) f v h = never (plain b c) f (λ d i. let z : ◌≡◌ {A = ℕ} 0 1 = cc in omega arith)
-says_calls (forks qs b c b' c') f v h = never (forks qs b c b' c') f (λ d i. let z : ◌≡◌ {A = ℕ} 0 1 = cc in omega arith)
+says_calls (plain b c) f v h = never (plain b c) f (λ d i. cc)
+says_calls (forks qs b c b' c') f v h = never (forks qs b c b' c') f (λ d i. cc)
 says_calls (calls t d) f v h = called_by t d f v h (eqb t f) refl
-says_calls (rets c) f v h = never (rets c) f (λ d i. let z : ◌≡◌ {A = ℕ} 0 1 = cc in omega arith)
+says_calls (rets c) f v h = never (rets c) f (λ d i. cc)

@@ -9,17 +9,20 @@ ghost use Rattle.secrecy.specs.Examples.{Examples};
 ghost use Rattle.secrecy.specs.Hiding.{HidingStands};
 
 /// The checks of rows find nothing if the rows are accepted, and only then.
+#[tactic(auto, using(crate::proofs::Meanings::rules))]
 pub fn rules_stand()
     ensures { RulesStand }
 {}
 
 /// Accepted rows hide every secret: two boards that differ in secrets only answer all calls alike, cycle counts among them, and
 /// the ways through a region all take the cycles that its rows say.
+#[tactic(auto, using(crate::proofs::Hidings::hiding))]
 pub fn hiding_stands()
     ensures { HidingStands }
 {}
 
 /// The rules at work: some small routines with their rows, accepted or refused.
+#[tactic(auto, unfolding(verdicts::specs::Verdict::first))]
 pub fn examples_stand()
     ensures { Examples }
 {}

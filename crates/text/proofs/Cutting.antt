@@ -26,17 +26,20 @@ unfolding lines_of
 lines_first b [] = lines_at b [] (newline b) refl refl
 lines_first b (c ∷ cs) = lines_at b (c ∷ cs) (newline b) refl (ap (onto b) (lines_first c cs))
 
-pub lines_some : (bs : List ℕ) → 0 < length bs → lines_of bs ≡ front in_line bs ∷ lines_of (after_line bs)
+lines_some : (bs : List ℕ) → 0 < length bs → lines_of bs ≡ front in_line bs ∷ lines_of (after_line bs)
 lines_some [] h = absurd (omega arith)
 lines_some (b ∷ bs) h = lines_first b bs
+
+-- the cut that the cursor of a file makes
+pub line_taken : (bs line rest : List ℕ) → 0 < length bs → line ≡ front in_line bs → rest ≡ after_line bs →
+    (lines_of bs ≡ line ∷ lines_of rest) × (length rest < length bs)
+line_taken bs line rest some cut left =
+    (lines_some bs some ∙ sym (λ i. cut i ∷ lines_of (left i)), omega (arith, ap length left, length-drop 1 (behind in_line bs), length-drop (prefix_len in_line bs) bs))
 
 pub lines_none : (bs : List ℕ) → length bs ≡ 0 → lines_of bs ≡ []
 unfolding lines_of
 lines_none [] h = refl
 lines_none (b ∷ bs) h = absurd (omega arith)
-
-pub line_shorter : (bs : List ℕ) → 0 < length bs → length (after_line bs) < length bs
-line_shorter bs h = simp length-drop (omega arith)
 
 -- what the kind of the first byte makes of the tokens
 pub tokens_at : (b : ℕ) (bs : List ℕ) (s t : Bool) → blank b ≡ s → solid b ≡ t →
@@ -87,7 +90,7 @@ unfolding tokens_of
 ended [] p q = refl
 ended (b ∷ bs) p q = tokens_at b bs false false (first_fails blank b bs p) (first_fails solid b bs q)
 
--- the cut that `first_token` makes: past the blanks, the token and what follows it
+-- the cut that the cursor of a line makes: past the blanks, the token and what follows it
 module _ (bs past token rest : List ℕ) (skipped : past ≡ behind blank bs) (cut : token ≡ front solid past) (left : rest ≡ behind solid past) where
   pub token_rest : rest ≡ after_token bs
   token_rest = left ∙ ap (behind solid) skipped
@@ -101,13 +104,11 @@ module _ (bs past token rest : List ℕ) (skipped : past ≡ behind blank bs) (c
       let empty = ended past (ap (prefix_len blank) skipped ∙ leading_behind blank bs) none in
       (tokens_skip bs ∙ ap tokens_of (sym skipped) ∙ empty, ap tokens_of (left ∙ ap (λ k. drop k past) none) ∙ empty)
 
-  pub token_some : 0 < length token → tokens_of bs ≡ token ∷ tokens_of rest
-  token_some h =
-      tokens_skip bs ∙ ap tokens_of (sym skipped) ∙ taken past (omega (arith, token_length)) ∙ sym (λ i. cut i ∷ tokens_of (left i))
-
-  pub token_shorter : 0 < length token → length rest < length bs
-  token_shorter h =
+  pub token_taken : 0 < length token → (tokens_of bs ≡ token ∷ tokens_of rest) × (length rest < length bs)
+  token_taken h =
       let l = prefix_len-le-length solid past in
       let k = ap length skipped ∙ length-drop (prefix_len blank bs) bs in
-      let j = ap length left ∙ length-drop (prefix_len solid past) past in
-      omega (arith, token_length)
+      let j = ap length left ∙ length-drop (prefix_len solid past) past in (
+        tokens_skip bs ∙ ap tokens_of (sym skipped) ∙ taken past (omega (arith, token_length)) ∙ sym (λ i. cut i ∷ tokens_of (left i)),
+        omega (arith, token_length),
+      )

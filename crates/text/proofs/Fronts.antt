@@ -1,9 +1,9 @@
 -- The longest front whose bytes pass a test. Assumes nothing.
-use Rattle.std.proofs.Common.{◌≡◌, ℕ, suc, ◌+◌, ◌<◌, Bool, true, false, eqb, List, [], ◌∷◌, ◌++◌, length, take, drop, refl, ap, ◌∙◌, one-add, arith, length-drop, length-take}
-use Rattle.std.specs.List.{prefix_len, AllByRecursion}
+use Rattle.std.proofs.Common.{◌≡◌, ℕ, suc, ◌+◌, ◌<◌, Bool, true, false, cond, not, eqb, ltb, List, [], ◌∷◌, ◌++◌, length, take, drop, Some, None, Option, unwrap_or, refl, ap, ◌∙◌, one-add, arith, length-drop, length-take}
+use Rattle.std.specs.List.{prefix_len, position, AllByRecursion}
 use Rattle.std.proofs.lemmas.List.{take_at, drop_at}
 use Rattle.std.proofs.lemmas.List.Sums.{prefix_len-le-length}
-use Rattle.std.proofs.lemmas.Bool.{eq-eqb, ne_eqb}
+use Rattle.std.proofs.lemmas.Bool.{eq-eqb, ne_eqb, ltb-false}
 use Rattle.text.specs.Cuts.{whole, front, behind}
 
 -- how far a test reaches, by whether the first byte passes it
@@ -51,6 +51,21 @@ leading_behind test (b ∷ bs) = by (test b) refl (leading_behind test bs)
 
 pub length_front : (test : ℕ → Bool) (bs : List ℕ) → length (front test bs) ≡ prefix_len test bs
 length_front test bs = rw length-take (omega (arith, prefix_len-le-length test bs))
+
+twice : (t : Bool) → not (not t) ≡ t
+twice true = refl
+twice false = refl
+
+-- how far a test reaches, where the first byte that fails it is sought
+within : (test : ℕ → Bool) (bs : List ℕ) (t : Bool) → ltb (prefix_len test bs) (length bs) ≡ t → unwrap_or (cond t (Some (prefix_len test bs)) None) (length bs) ≡ prefix_len test bs
+within test bs true e = refl
+within test bs false e = omega (arith, ltb-false (prefix_len test bs) (length bs) e, prefix_len-le-length test bs)
+
+pub reached : (test : ℕ → Bool) (bs : List ℕ) (first : Option ℕ) → first ≡ position (λ b. not (test b)) bs → unwrap_or first (length bs) ≡ prefix_len test bs
+reached test bs first found =
+    ap (λ f. unwrap_or f (length bs)) found
+    ∙ within (λ b. not (not (test b))) bs _ refl
+    ∙ ap (λ t. prefix_len t bs) (λ i b. twice (test b) i)
 
 -- a list whose bytes all pass, and what follows it
 module _ (test : ℕ → Bool) where

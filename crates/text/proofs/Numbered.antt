@@ -10,22 +10,21 @@ use Rattle.std.proofs.lemmas.List.{get_or_past}
 use Rattle.std.proofs.lemmas.Str.Parse.{digit_at}
 use Rattle.std.proofs.lemmas.Bool.{cond-true, cond-false, and_from, and_right, or_from, not_from_false, lt-ltb, eq-eqb, ne_eqb, eqb-true, cases_lt}
 use Rattle.std.proofs.lemmas.Bool.Decides.{nat_tests}
-use Rattle.text.specs.declared.bytes.Base.{Base}
-use Rattle.text.specs.declared.bytes.Base.TheVariants.{Decimal, Hexadecimal}
-use Rattle.text.specs.declared.bytes.Kind.TheVariants.{Digit}
-use Rattle.text.specs.Kinds.{radix, is_of}
+use Rattle.text.specs.declared.numbers.Base.{Base}
+use Rattle.text.specs.declared.numbers.Base.TheVariants.{Decimal, Hexadecimal}
+use Rattle.text.specs.Kinds.{radix, is_digit_of}
 use Rattle.text.specs.Numbers.{is_numeral, numeral, numeral_of, number_of}
 use Rattle.text.specs.Laws.{NumbersStand}
 use Rattle.text.proofs.Fronts.{whole_all}
 
-all_digits : (base : Base) (ds : List ℕ) → AllDigits (radix base) ds → AllByRecursion (λ b. is_of (Digit base) b ≡ true) ds
+all_digits : (base : Base) (ds : List ℕ) → AllDigits (radix base) ds → AllByRecursion (λ b. is_digit_of base b ≡ true) ds
 all_digits base [] h = tt
 all_digits base (d ∷ ds) h = (lt-ltb (digit_value d) (radix base) h.0, all_digits base ds h.1)
 
 numeral_is : (base : Base) (ds : List ℕ) (n : ℕ) → IsNumeral (radix base) ds → digits_value (radix base) ds ≡ n → numeral base ds ≡ Some n
 numeral_is base ds n h e =
     cond-true (is_numeral base ds) _ _
-    (and_from (not (eqb (length ds) 0)) _ (not_from_false _ (ne_eqb (length ds) 0 (λ z. omega (arith, h.0)))) (whole_all (is_of (Digit base)) ds (all_digits base ds h.1)))
+    (and_from (not (eqb (length ds) 0)) _ (not_from_false _ (ne_eqb (length ds) 0 (λ z. omega (arith, h.0)))) (whole_all (is_digit_of base) ds (all_digits base ds h.1)))
     ∙ ap (λ m. Some m) e
 
 -- decimal digits hold no `x`

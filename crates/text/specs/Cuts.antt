@@ -1,6 +1,10 @@
 -- How a list of bytes is cut at its front. Assumes nothing.
-use Rattle.std.specs.Prelude.{◌≡◌, ℕ, Bool, List, [], ◌∷◌, length, take, drop, Some, None, Option, ◌==◌}
+use Rattle.std.specs.Prelude.{◌≡◌, ℕ, Bool, List, [], ◌∷◌, length, take, drop, ◌==◌}
 use Rattle.std.specs.List.{prefix_len}
+
+-- what calls answer for a byte is whether it passes a test
+abbrev pub Computes : (ℕ → Bool → Type 0) → (ℕ → Bool) → Type 0
+Computes answers test = (b : ℕ) (t : Bool) → answers b t → t ≡ test b
 
 -- the longest front whose bytes all pass a test, and what follows it
 abbrev pub front : (ℕ → Bool) → List ℕ → List ℕ
@@ -17,8 +21,3 @@ whole test bs = length (behind test bs) == 0
 abbrev pub onto : ℕ → List (List ℕ) → List (List ℕ)
 onto b [] = (b ∷ []) ∷ []
 onto b (piece ∷ pieces) = (b ∷ piece) ∷ pieces
-
--- x is the first of xs, and ys are the others; where none is taken, none is there
-abbrev pub Takes : {X : Type 0} → Option X → List X → List X → Type 0
-Takes None xs ys = (xs ≡ []) × (ys ≡ [])
-Takes (Some x) xs ys = xs ≡ x ∷ ys

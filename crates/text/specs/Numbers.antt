@@ -2,17 +2,16 @@
 use Rattle.std.specs.Prelude.{ℕ, Bool, cond, not, ◌&&◌, ◌||◌, List, length, drop, Some, None, Ok, Err, Option, Result, ◌==◌, nat_le, slice_index}
 use Rattle.std.specs.Bool.{then_some}
 use Rattle.std.specs.Str.Parse.{digits_value}
-use Rattle.text.specs.declared.bytes.Base.{Base}
-use Rattle.text.specs.declared.bytes.Base.TheVariants.{Decimal, Hexadecimal}
-use Rattle.text.specs.declared.bytes.Kind.TheVariants.{Digit}
+use Rattle.text.specs.declared.numbers.Base.{Base}
+use Rattle.text.specs.declared.numbers.Base.TheVariants.{Decimal, Hexadecimal}
 use Rattle.text.specs.declared.numbers.NumberFault.{NumberFault}
 use Rattle.text.specs.declared.numbers.NumberFault.TheVariants.{NoNumber, TooLarge}
 use Rattle.text.specs.Cuts.{whole}
-use Rattle.text.specs.Kinds.{radix, is_of}
+use Rattle.text.specs.Kinds.{radix, is_digit_of}
 
 -- one digit of the base or more, and nothing else
 abbrev pub is_numeral : Base → List ℕ → Bool
-is_numeral base ds = not (length ds == 0) && whole (is_of (Digit base)) ds
+is_numeral base ds = not (length ds == 0) && whole (is_digit_of base) ds
 
 -- the number that such digits write, the first one weighing most
 abbrev pub numeral : Base → List ℕ → Option ℕ

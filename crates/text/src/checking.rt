@@ -3,7 +3,7 @@ ghost use Rattle.std.specs.Prelude.{◌≡◌, ◌≤◌, length, count_by};
 ghost use Rattle.text.specs.Bytes.{newline};
 ghost use Rattle.text.specs.Refusals.{checked};
 
-use crate::bytes::{Kind, cut};
+use crate::bytes::{cut, is_allowed};
 
 /// A byte that cannot stand in a routine file, and the line that it stands on, counted from 1.
 #[derive(Clone, Copy, Debug, PartialEq, Eq)]
@@ -16,15 +16,14 @@ pub struct BadByte {
 pub fn is_text(bytes: &[u8]) -> Result<(), BadByte>
     ensures { result ≡ checked bytes.now }
 {
-    let (front, rest) = cut(bytes, Kind::Allowed);
-    if rest.is_empty() {
-        return Ok(());
+    let (front, rest) = cut(bytes, is_allowed);
+    match rest.first() {
+        Some(byte) => Err(BadByte {
+            line: 1 + newlines(front),
+            byte: *byte,
+        }),
+        None => Ok(()),
     }
-    let line = 1 + newlines(front);
-    Err(BadByte {
-        line,
-        byte: rest[0],
-    })
 }
 
 /// How many newlines there are.
@@ -32,11 +31,5 @@ fn newlines(bytes: &[u8]) -> usize
     ensures value { result ≡ count_by newline bytes.now }
     ensures within { result ≤ length bytes.now }
 {
-    let mut count = 0;
-    for byte in bytes {
-        if *byte == b'\n' {
-            count += 1;
-        }
-    }
-    count
+    bytes.iter().filter(|byte| **byte == b'\n').count()
 }

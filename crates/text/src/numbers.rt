@@ -3,10 +3,33 @@ ghost use Rattle.std.specs.Prelude.{◌≡◌, ◌+◌, ◌*◌, Some};
 ghost use Rattle.std.specs.Option.{option_map};
 ghost use Rattle.std.specs.Str.Parse.{digits_value};
 ghost use Rattle.std.specs.Char.{digit_value};
-ghost use Rattle.text.specs.Kinds.{radix};
+ghost use Rattle.text.specs.Kinds.{radix, is_digit_of};
 ghost use Rattle.text.specs.Numbers.{numeral, hex_digits, number_of, limited};
 
-use crate::bytes::{Base, Kind, cut, digit_value};
+use crate::bytes::cut;
+
+/// The base that a number is written in.
+#[derive(Clone, Copy)]
+pub enum Base {
+    Decimal = 10,
+    Hexadecimal = 16,
+}
+
+impl Base {
+    /// How many digits the base has.
+    fn radix(self) -> u32
+        ensures { result ≡ radix self }
+    {
+        self as u32
+    }
+
+    /// Whether a byte is a digit of the base.
+    fn has(self, byte: u8) -> bool
+        ensures { result ≡ is_digit_of self byte }
+    {
+        char::from(byte).is_digit(self.radix())
+    }
+}
 
 /// Why a token is not taken as a number.
 #[derive(Clone, Copy, Debug, PartialEq, Eq)]
@@ -41,7 +64,7 @@ fn after_prefix(token: &[u8]) -> Option<&[u8]>
 fn read(digits: &[u8], base: Base, most: u32) -> Result<u32, NumberFault>
     ensures { result ≡ limited most (numeral base digits.now) }
 {
-    let (_, rest) = cut(digits, Kind::Digit(base));
+    let (_, rest) = cut(digits, |byte| base.has(byte));
     if digits.is_empty() || !rest.is_empty() {
         return Err(NumberFault::NoNumber);
     }
@@ -52,6 +75,7 @@ fn read(digits: &[u8], base: Base, most: u32) -> Result<u32, NumberFault>
 fn weigh(digits: &[u8], base: Base, most: u32) -> Result<u32, NumberFault>
     ensures { result ≡ limited most (Some (digits_value (radix base) digits.now)) }
 {
+    // No `try_fold`: its closure would have to pass the same test and the same error on.
     let mut sum = 0u32;
     for digit in digits {
         let more = appended(sum, base, *digit);
@@ -67,5 +91,6 @@ fn weigh(digits: &[u8], base: Base, most: u32) -> Result<u32, NumberFault>
 fn appended(number: u32, base: Base, digit: u8) -> u64
     ensures { result ≡ number * radix base + digit_value digit }
 {
-    u64::from(number) * u64::from(base.digits()) + u64::from(digit_value(digit))
+    let value = char::from(digit).to_digit(36).unwrap_or(36);
+    u64::from(number) * u64::from(base.radix()) + u64::from(value)
 }

@@ -1,31 +1,25 @@
 -- Lemmas on checks that follow one another, for the loops and the `?` of the code that makes them.
-use Rattle.std.proofs.Common.{◌≡◌, ℕ, zero, suc, ◌+◌, ◌<◌, ◌≤◌, Bool, true, false, List, IsErrAnd, Result, refl, ◌∙◌, ⊎_elim, add-one, arith}
+use Rattle.std.proofs.Common.{rules, ◌≡◌, ℕ, zero, suc, ◌+◌, ◌<◌, ◌≤◌, Bool, true, List, IsErrAnd, Result, refl, ◌∙◌, ⊎_elim, add-one, arith}
 use Rattle.std.proofs.lemmas.Bool.{cases_lt}
-use Rattle.std.proofs.lemmas.Result.{err_from_is_err_and}
 use Rattle.verdicts.specs.Verdict.{Verdict, Refusal, fine, refused, and_then, rule, first, says}
 use Rattle.verdicts.specs.Laws.{Keeps, BreaksFirst, FirstBrokenStands}
 
 pub and_fine : (v w : Verdict) → and_then v w ≡ fine → (v ≡ fine) × (w ≡ fine)
-and_fine fine w e = (refl, e)
-and_fine (refused r) w e = (e, cc)
+and_fine v w e = search rules
 
 pub rule_fine : (t : Bool) (n : ℕ) (vs : List ℕ) → rule t n vs ≡ fine → t ≡ true
-rule_fine true n vs e = refl
-rule_fine false n vs e = cc
+rule_fine t n vs e = search rules
 
 -- the exit of a `?`
 pub says_err : {T E : Type 0} (f : E → Refusal) (r : Result T E) (w : E) → IsErrAnd r (λ y. y ≡ w) → says f r ≡ refused (f w)
-says_err f r w h = let p = err_from_is_err_and r h in rw (p.1, p.2)
+says_err f r w h = search rules
 
 -- one check after another
-pub then-stop : (v w : Verdict) (r : Refusal) → v ≡ refused r → and_then v w ≡ refused r
-then-stop v w r e = rw e
-
 pub then-on : (v w x : Verdict) → v ≡ fine → w ≡ x → and_then v w ≡ x
-then-on v w x e h = rw e h
+then-on v w x e h = search rules
 
 pub rule_met : (t : Bool) (n : ℕ) (vs : List ℕ) → t ≡ true → rule t n vs ≡ fine
-rule_met t n vs e = rw e
+rule_met t n vs e = search rules
 
 module _ (f : ℕ → Verdict) where
   -- a loop over all n, at its end

@@ -1,14 +1,11 @@
 -- One reading after another.
-use Rattle.std.proofs.Common.{◌≡◌, List, [], ◌∷◌, Some, None, Option, refl}
+use Rattle.std.proofs.Common.{rules, ◌≡◌, List, [], ◌∷◌, Option}
 use Rattle.std.specs.Option.{option_or}
 use Rattle.words.specs.declared.instruction.Instruction.{Instruction}
 use Rattle.words.specs.Decode.{first_of}
 
 pub first_two : (a b : Option Instruction) (os : List (Option Instruction)) → first_of (a ∷ (b ∷ os)) ≡ first_of (option_or a b ∷ os)
-first_two None None os = refl
-first_two None (Some i) os = refl
-first_two (Some i) b os = refl
+first_two a b os = search rules
 
 pub first_one : (a : Option Instruction) → first_of (a ∷ []) ≡ a
-first_one None = refl
-first_one (Some i) = refl
+first_one a = search rules

@@ -3,7 +3,8 @@ ghost use Rattle.std.specs.Prelude.{◌≡◌, ℕ, ◌+◌, ◌-◌, ◌*◌, �
 ghost use Rattle.words.specs.Fields.{bits as bits_of, signed as signed_of};
 ghost use Rattle.words.specs.Decode.{binary_of, immediate_of, wide_of, movw_of, unary_of, pointers_of, pointer_of, displaced_of, jump_of, branch_of, fixed_of, decode_of, d_of, displacement as displacement_of, pair_written_back, in_pair};
 
-use crate::instruction::{Base, BinaryOp, Flag, ImmediateOp, Instruction, Mode, UnaryOp, WideOp};
+use crate::codes::Coded;
+use crate::instruction::{Instruction, Mode};
 
 /// The number in the `count` bits of a word that begin at bit `low`.
 fn bits(word: u16, low: u32, count: u32) -> u16
@@ -12,6 +13,14 @@ fn bits(word: u16, low: u32, count: u32) -> u16
     ensures small { result < 2 ^ count }
 {
     (word >> low) % (1 << count)
+}
+
+/// What the number in the `count` bits from bit `low` on names, if it names anything.
+fn field<C: Coded>(word: u16, low: u32, count: u32) -> Option<C>
+    requires { (low < 16) × (count < 16) }
+    ensures { result ≡ C.named_by (bits_of word low count) }
+{
+    C::from_code(bits(word, low, count))
 }
 
 /// The distance that a field in two's complement stands for, where the field has 2 * `half` values.
@@ -37,27 +46,23 @@ fn register_d(word: u16) -> u8
 fn binary(word: u16) -> Option<Instruction>
     ensures { result ≡ binary_of word }
 {
-    match BinaryOp::from_code(bits(word, 10, 6)) {
-        Some(op) => Some(Instruction::Binary {
-            op,
-            d: register_d(word),
-            r: (16 * bits(word, 9, 1) + bits(word, 0, 4)) as u8,
-        }),
-        None => None,
-    }
+    let op = field(word, 10, 6)?;
+    Some(Instruction::Binary {
+        op,
+        d: register_d(word),
+        r: (16 * bits(word, 9, 1) + bits(word, 0, 4)) as u8,
+    })
 }
 
 fn immediate(word: u16) -> Option<Instruction>
     ensures { result ≡ immediate_of word }
 {
-    match ImmediateOp::from_code(bits(word, 12, 4)) {
-        Some(op) => Some(Instruction::Immediate {
-            op,
-            d: 16 + bits(word, 4, 4) as u8,
-            k: (16 * bits(word, 8, 4) + bits(word, 0, 4)) as u8,
-        }),
-        None => None,
-    }
+    let op = field(word, 12, 4)?;
+    Some(Instruction::Immediate {
+        op,
+        d: 16 + bits(word, 4, 4) as u8,
+        k: (16 * bits(word, 8, 4) + bits(word, 0, 4)) as u8,
+    })
 }
 
 fn wide(word: u16) -> Option<Instruction>
@@ -66,14 +71,12 @@ fn wide(word: u16) -> Option<Instruction>
     if bits(word, 9, 7) != 0b1001011 {
         return None;
     }
-    match WideOp::from_code(bits(word, 8, 1)) {
-        Some(op) => Some(Instruction::Wide {
-            op,
-            d: 24 + 2 * bits(word, 4, 2) as u8,
-            k: (16 * bits(word, 6, 2) + bits(word, 0, 4)) as u8,
-        }),
-        None => None,
-    }
+    let op = field(word, 8, 1)?;
+    Some(Instruction::Wide {
+        op,
+        d: 24 + 2 * bits(word, 4, 2) as u8,
+        k: (16 * bits(word, 6, 2) + bits(word, 0, 4)) as u8,
+    })
 }
 
 fn movw(word: u16) -> Option<Instruction>
@@ -94,13 +97,11 @@ fn unary(word: u16) -> Option<Instruction>
     if bits(word, 9, 7) != 0b1001010 {
         return None;
     }
-    match UnaryOp::from_code(bits(word, 0, 4)) {
-        Some(op) => Some(Instruction::Unary {
-            op,
-            d: register_d(word),
-        }),
-        None => None,
-    }
+    let op = field(word, 0, 4)?;
+    Some(Instruction::Unary {
+        op,
+        d: register_d(word),
+    })
 }
 
 fn displacement(word: u16) -> u8
@@ -127,10 +128,8 @@ impl Mode {
     pub fn writes_back(self, register: u8) -> bool
         ensures { result ≡ in_pair (pair_written_back self) register }
     {
-        match self.written_back() {
-            Some(low) => register == low || u16::from(register) == u16::from(low) + 1,
-            None => false,
-        }
+        self.written_back().is_some_and(|low| register == low
+            || u16::from(register) == u16::from(low) + 1)
     }
 }
 
@@ -154,10 +153,7 @@ fn pointers(word: u16) -> Option<Instruction>
     if bits(word, 10, 6) != 0b100100 {
         return None;
     }
-    match Mode::from_code(bits(word, 0, 4)) {
-        Some(mode) => pointer(word, mode),
-        None => None,
-    }
+    pointer(word, field(word, 0, 4)?)
 }
 
 fn displaced(word: u16) -> Option<Instruction>
@@ -166,20 +162,22 @@ fn displaced(word: u16) -> Option<Instruction>
     if bits(word, 14, 2) != 0b10 || bits(word, 12, 1) != 0 {
         return None;
     }
+    let base = field(word, 3, 1)?;
     let q = displacement(word);
-    match Base::from_code(bits(word, 3, 1)) {
-        Some(base) if bits(word, 9, 1) == 0 => Some(Instruction::LoadDisplaced {
+    let register = register_d(word);
+    Some(if bits(word, 9, 1) == 0 {
+        Instruction::LoadDisplaced {
             base,
             q,
-            d: register_d(word),
-        }),
-        Some(base) => Some(Instruction::StoreDisplaced {
+            d: register,
+        }
+    } else {
+        Instruction::StoreDisplaced {
             base,
             q,
-            r: register_d(word),
-        }),
-        None => None,
-    }
+            r: register,
+        }
+    })
 }
 
 fn jump(word: u16) -> Option<Instruction>
@@ -199,14 +197,12 @@ fn branch(word: u16) -> Option<Instruction>
     if bits(word, 11, 5) != 0b11110 {
         return None;
     }
-    match Flag::from_code(bits(word, 0, 3)) {
-        Some(flag) => Some(Instruction::Branch {
-            flag,
-            set: bits(word, 10, 1) == 0,
-            k: signed(bits(word, 3, 7), 64),
-        }),
-        None => None,
-    }
+    let flag = field(word, 0, 3)?;
+    Some(Instruction::Branch {
+        flag,
+        set: bits(word, 10, 1) == 0,
+        k: signed(bits(word, 3, 7), 64),
+    })
 }
 
 fn fixed(word: u16) -> Option<Instruction>
@@ -225,12 +221,11 @@ impl Instruction {
     pub fn decode(word: u16) -> Option<Instruction>
         ensures { result ≡ decode_of word }
     {
-        let constant = binary(word)
+        binary(word)
             .or(immediate(word))
             .or(wide(word))
             .or(movw(word))
-            .or(unary(word));
-        constant
+            .or(unary(word))
             .or(pointers(word))
             .or(displaced(word))
             .or(jump(word))

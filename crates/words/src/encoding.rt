@@ -3,6 +3,7 @@ ghost use Rattle.std.specs.Prelude.{◌≡◌, ℕ, ◌+◌, ◌-◌, ◌*◌, �
 ghost use Rattle.words.specs.Fields.{unsigned as unsigned_of, fits_field as fits_in_of};
 ghost use Rattle.words.specs.Encode.{encodable, spread as spread_of, word_of, encode_of};
 
+use crate::codes::Coded;
 use crate::instruction::Instruction;
 
 /// Whether a distance has a field with 2 * `half` values.
@@ -11,7 +12,7 @@ fn fits_in(half: u16, k: i16) -> bool
     ensures { result ≡ fits_in_of half k }
 {
     let half = half as i16;
-    -half <= k && k < half
+    (-half..half).contains(&k)
 }
 
 /// The field with 2 * `half` values that stands for a distance.
@@ -44,14 +45,15 @@ impl Instruction {
     {
         match self {
             Instruction::Binary { d, r, .. } => d < 32 && r < 32,
-            Instruction::Immediate { d, .. } => 16 <= d && d < 32,
-            Instruction::Wide { d, k, .. } => 24 <= d && d < 32 && d % 2 == 0 && k < 64,
+            Instruction::Immediate { d, .. } => (16..32).contains(&d),
+            Instruction::Wide { d, k, .. } => (24..32).contains(&d) && d % 2 == 0 && k < 64,
             Instruction::Movw { d, r } => d < 32 && d % 2 == 0 && r < 32 && r % 2 == 0,
             Instruction::Unary { d, .. } => d < 32,
-            Instruction::Load { mode, d } => d < 32 && !mode.writes_back(d),
-            Instruction::Store { mode, r } => r < 32 && !mode.writes_back(r),
-            Instruction::LoadDisplaced { q, d, .. } => q < 64 && d < 32,
-            Instruction::StoreDisplaced { q, r, .. } => q < 64 && r < 32,
+            Instruction::Load { mode, d: r } | Instruction::Store { mode, r } => r < 32
+                && !mode.writes_back(r),
+            Instruction::LoadDisplaced { q, d: r, .. } | Instruction::StoreDisplaced { q, r, .. } =>
+                q < 64 && r < 32,
+            // Two arms: an or-pattern that binds an `i16` gets no proof.
             Instruction::Rjmp { k } => fits_in(2048, k),
             Instruction::Rcall { k } => fits_in(2048, k),
             Instruction::Branch { k, .. } => fits_in(64, k),
@@ -106,10 +108,6 @@ impl Instruction {
     pub fn encode(self) -> Option<u16>
         ensures { result ≡ encode_of self }
     {
-        if self.is_encodable() {
-            Some(self.word())
-        } else {
-            None
-        }
+        self.is_encodable().then(|| self.word())
     }
 }

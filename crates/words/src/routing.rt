@@ -6,14 +6,14 @@ use crate::instruction::{BinaryOp, Instruction};
 use crate::route::Route;
 
 /// What stands for an address below 0: no listing has it.
+// Kept a number and not an Option: an address past the end is no listing's either, and one comparison refuses both.
 pub const NOWHERE: u32 = 0xFFFF_FFFF;
 
 /// The target of a jump by `k` words, counted from the address after `at`.
 fn target(at: u16, k: i16) -> u32
     ensures { result ≡ target_of at k }
 {
-    let sum = i32::from(at) + 1 + i32::from(k);
-    if sum < 0 { NOWHERE } else { sum as u32 }
+    u32::try_from(i32::from(at) + 1 + i32::from(k)).unwrap_or(NOWHERE)
 }
 
 impl Instruction {

@@ -1,8 +1,8 @@
 //! Making a board, and the calls that load, read and clear it.
-ghost use Rattle.std.specs.Prelude.{◌≡◌, ℕ, ◌<◌, ◌≤◌, length};
-ghost use Rattle.verdicts.specs.Verdict.{fine, says};
+ghost use Rattle.std.specs.Prelude.{◌≡◌, ℕ, ◌<◌, ◌≤◌, length, IfOk};
+ghost use Rattle.verdicts.specs.Verdict.{fine, says, outcome, making};
 ghost use Rattle.machine.specs.Calls.{fresh, does, done, clear as clear_call, put as put_call, read as read_call};
-ghost use Rattle.avr.specs.Chip.{avr};
+ghost use Rattle.avr.specs.Chip.{instruction_of, avr};
 ghost use Rattle.board.specs.Steps.{Fetched};
 ghost use Rattle.board.specs.Faults.{making_of, making_refusal, put_answer, read_answer};
 ghost use Rattle.board.specs.States.{board_of, words_of, after, Lent};
@@ -11,29 +11,32 @@ use crate::board::Board;
 use crate::chip::Chip;
 use crate::chip::access::is_valid;
 use crate::fault::{CallFault, MakingFault};
+use arrayvec::ArrayVec;
 use avr::location::Location;
 use cells::cell::Cell;
 use machine::phase::Phase;
+use std::array;
 use words::instruction::Instruction;
 use words::listing::Listing;
+
+/// The instruction of the word at an address; past the last word it is that of 0.
+fn instruction_at(words: &[u16], at: usize) -> Instruction
+    ensures { result ≡ instruction_of words.now at }
+{
+    let word = words.get(at).copied().unwrap_or(0);
+    Instruction::decode(word).unwrap_or(Instruction::Nop)
+}
 
 /// The cells of at most 1,024 words.
 fn cells_of(words: &[u16]) -> [Cell; 1024]
     requires { length words.now ≤ 1024 }
-    ensures fetched { Fetched words.now result }
-    ensures rows { length result ≡ 1024 }
+    ensures { Fetched words.now result }
 {
-    let mut cells = [Cell::new(0, Instruction::Nop); 1024];
-    for at in 0..words.len() {
-        cells[at] = Cell::new(
-            at as u16,
-            Instruction::decode(words[at]).unwrap_or(Instruction::Nop),
-        );
-    }
-    cells
+    array::from_fn(|at| Cell::new(at as u16, instruction_at(words, at)))
 }
 
 impl<'w, 'm> Board<'w, 'm> {
+    // The project asks for a making that cannot refuse, after a check that may: `new` after `check`.
     /// Whether a board can be made of words and lent bytes. Nothing is changed.
     pub fn check(words: &[u16], memory: &[u8]) -> Result<(), MakingFault>
         ensures { says making_refusal result ≡ making_of words.now memory.now }
@@ -61,11 +64,21 @@ impl<'w, 'm> Board<'w, 'm> {
             cells,
             chip,
             at: 0,
-            returns: [0; 16],
-            depth: 0,
+            returns: ArrayVec::new(),
             count: 0,
             phase: Phase::Loading,
         }
+    }
+
+    /// The board of words and lent bytes, as `new` makes it, or the first reason why there is none.
+    // That a refusal leaves the bytes alone no clause can say, since the loan is given away: what refuses sees them behind a `&`.
+    pub fn try_new(words: &'w [u16], memory: &'m mut [u8]) -> Result<Self, MakingFault>
+        ensures state { outcome board_of making_refusal result ≡ making (making_of words.now memory.old) (fresh (avr words.now)) }
+        ensures words { IfOk result (λ board. words_of board ≡ words.now) }
+        ensures lent { IfOk result (λ board. board.chip.memory.ghost_name ≡ memory.entry.ghost_name) }
+    {
+        Board::check(words, memory)?;
+        Ok(Board::new(words, memory))
     }
 
     /// Sets everything to 0 again, and the phase to loading.
@@ -75,7 +88,7 @@ impl<'w, 'm> Board<'w, 'm> {
     {
         self.chip.clear();
         self.at = 0;
-        self.depth = 0;
+        self.returns.clear();
         self.count = 0;
         self.phase = Phase::Loading;
     }

@@ -1,8 +1,10 @@
 //! Runs: steps up to a limit of cycles.
-ghost use Rattle.std.specs.Prelude.{◌≡◌, ◌+◌, ◌<◌, ◌≤◌, length, IfNone, nat_lt};
+ghost use Rattle.std.specs.Prelude.{◌≡◌, ◌+◌, true, false, length, nat_lt};
+ghost use Rattle.std.specs.ControlFlow.{MatchControlFlow};
+ghost use Rattle.machine.specs.declared.phase.Ending.TheVariants.{Spent};
 ghost use Rattle.machine.specs.Run.{landed, step as step_of, Runs};
 ghost use Rattle.machine.specs.Laws.{Counts};
-ghost use Rattle.machine.specs.Calls.{ends, does, run as run_call, phase_of};
+ghost use Rattle.machine.specs.Calls.{ends, does, run as run_call};
 ghost use Rattle.avr.specs.Chip.{instruction_of, avr};
 ghost use Rattle.cells.specs.declared.cell.Leave.TheVariants.{Jump, Call, Return};
 ghost use Rattle.cells.specs.declared.cell.Way.TheVariants.{On, Leave as Leaving};
@@ -16,18 +18,11 @@ use crate::board::Board;
 use cells::cell::{Cell, Leave, Way};
 use cells::work::Work;
 use machine::phase::{Ending, Phase, Stop};
+use std::ops::ControlFlow;
 
-/// The phase that an ending leaves a board in.
-fn left_in(ending: Ending) -> Phase
-    ensures { result ≡ phase_of ending }
-{
-    match ending {
-        Ending::Spent(_) => Phase::Running,
-        Ending::Ended(_) => Phase::Ended,
-        Ending::Stopped(stop, _) => Phase::Stopped(stop),
-    }
-}
-
+// That words and lent bytes stay the same (`Lent`) is said by each method that changes a board. A part of it with the address,
+// the returns and the count alone would say so once, but would be passed the listing's length in each call, and would have to
+// say of each that the address stays below it.
 impl Board<'_, '_> {
     /// The cell of the word at which the board stands.
     fn fetch(&self) -> &Cell
@@ -36,11 +31,15 @@ impl Board<'_, '_> {
         &self.cells[self.at as usize]
     }
 
-    /// Whether so many cycles more pass a limit.
-    fn passes(&self, limit: u32, cycles: u8) -> bool
-        ensures { result ≡ nat_lt limit (self.now.count + cycles) }
+    /// The count after so many cycles more, unless they pass the limit.
+    // The limit is the run's and the cycles are the word's: a struct of both would be made anew for each word.
+    fn paid(&self, limit: u32, cycles: u8) -> ControlFlow<Ending, u32>
+        ensures { MatchControlFlow result (λ count. (nat_lt limit (self.now.count + cycles) ≡ false) × (count ≡ self.now.count + cycles)) (λ ending. (nat_lt limit (self.now.count + cycles) ≡ true) × (ending ≡ Spent limit)) }
     {
-        u64::from(limit) < u64::from(self.count) + u64::from(cycles)
+        if u64::from(limit) < u64::from(self.count) + u64::from(cycles) {
+            return ControlFlow::Break(Ending::Spent(limit));
+        }
+        ControlFlow::Continue(self.count + u32::from(cycles))
     }
 
     /// Whether an address is in the listing.
@@ -51,30 +50,26 @@ impl Board<'_, '_> {
     }
 
     /// Goes to an address if it is in the listing.
-    fn land(&mut self, to: u32) -> Option<Ending>
+    fn land(&mut self, to: u32) -> ControlFlow<Ending>
         ensures state { stepped result (state_of self.new) ≡ landed (length (words_of self.old)) self.old.at to (held_of self.old) self.old.count (core_of self.old.chip) }
         ensures same { Lent self.old self.new }
         ensures count { self.new.count ≡ self.old.count }
     {
         if self.holds(to) {
             self.at = to as u16;
-            None
+            ControlFlow::Continue(())
         } else {
-            Some(Ending::Stopped(Stop::Off, self.count))
+            ControlFlow::Break(Ending::Stopped(Stop::Off, self.count))
         }
     }
 
     /// A step by a word that does its work and goes on.
-    fn go_on(&mut self, limit: u32, work: Work, cycles: u8) -> Option<Ending>
-        requires { (Fits work) × (0 < cycles) }
+    fn go_on(&mut self, limit: u32, work: Work, cycles: u8) -> ControlFlow<Ending>
+        requires { Fits work }
         ensures state { stepped result (state_of self.new) ≡ step_in (length (words_of self.old)) limit (On work) cycles cycles (state_of self.old) }
         ensures same { Lent self.old self.new }
-        ensures onward { IfNone result ((self.old.count < self.new.count) × (self.new.count ≤ limit)) }
     {
-        if self.passes(limit, cycles) {
-            return Some(Ending::Spent(limit));
-        }
-        let count = self.count + u32::from(cycles);
+        let count = self.paid(limit, cycles)?;
         let next = u32::from(self.at) + 1;
         self.chip.perform(work);
         self.count = count;
@@ -82,16 +77,11 @@ impl Board<'_, '_> {
     }
 
     /// A step by a word that only goes to an address.
-    fn go_to(&mut self, limit: u32, to: u32, cycles: u8) -> Option<Ending>
-        requires { 0 < cycles }
+    fn go_to(&mut self, limit: u32, to: u32, cycles: u8) -> ControlFlow<Ending>
         ensures state { stepped result (state_of self.new) ≡ step_in (length (words_of self.old)) limit (Leaving (Jump to)) cycles cycles (state_of self.old) }
         ensures same { Lent self.old self.new }
-        ensures onward { IfNone result ((self.old.count < self.new.count) × (self.new.count ≤ limit)) }
     {
-        if self.passes(limit, cycles) {
-            return Some(Ending::Spent(limit));
-        }
-        self.count += u32::from(cycles);
+        self.count = self.paid(limit, cycles)?;
         self.land(to)
     }
 
@@ -103,48 +93,35 @@ impl Board<'_, '_> {
     }
 
     /// A step by a word that calls.
-    fn call(&mut self, limit: u32, to: u32, cycles: u8) -> Option<Ending>
-        requires { 0 < cycles }
+    fn call(&mut self, limit: u32, to: u32, cycles: u8) -> ControlFlow<Ending>
         ensures state { stepped result (state_of self.new) ≡ step_in (length (words_of self.old)) limit (Leaving (Call to)) cycles cycles (state_of self.old) }
         ensures same { Lent self.old self.new }
-        ensures onward { IfNone result ((self.old.count < self.new.count) × (self.new.count ≤ limit)) }
     {
-        if self.passes(limit, cycles) {
-            return Some(Ending::Spent(limit));
-        }
-        if self.depth >= 16 {
-            return Some(Ending::Stopped(Stop::Deep, self.count));
-        }
+        let count = self.paid(limit, cycles)?;
         let address = self.return_address();
-        self.returns[self.depth] = address;
-        self.depth += 1;
-        self.count += u32::from(cycles);
+        if self.returns.try_push(address).is_err() {
+            return ControlFlow::Break(Ending::Stopped(Stop::Deep, self.count));
+        }
+        self.count = count;
         self.land(to)
     }
 
     /// A step by a word that returns.
-    fn go_back(&mut self, limit: u32, cycles: u8) -> Option<Ending>
-        requires { 0 < cycles }
+    fn go_back(&mut self, limit: u32, cycles: u8) -> ControlFlow<Ending>
         ensures state { stepped result (state_of self.new) ≡ step_in (length (words_of self.old)) limit (Leaving Return) cycles cycles (state_of self.old) }
         ensures same { Lent self.old self.new }
-        ensures onward { IfNone result ((self.old.count < self.new.count) × (self.new.count ≤ limit)) }
     {
-        if self.passes(limit, cycles) {
-            return Some(Ending::Spent(limit));
+        self.count = self.paid(limit, cycles)?;
+        match self.returns.pop() {
+            Some(to) => self.land(u32::from(to)),
+            None => ControlFlow::Break(Ending::Ended(self.count)),
         }
-        self.count += u32::from(cycles);
-        if self.depth == 0 {
-            return Some(Ending::Ended(self.count));
-        }
-        self.depth -= 1;
-        self.land(u32::from(self.returns[self.depth]))
     }
 
-    /// One step, up to a limit of cycles: an ending, or none where the run goes on.
-    fn step(&mut self, limit: u32) -> Option<Ending>
+    /// One step, up to a limit of cycles: it breaks with an ending, or the run goes on.
+    fn step(&mut self, limit: u32) -> ControlFlow<Ending>
         ensures state { stepped result (state_of self.new) ≡ step_of (avr (words_of self.old)) limit (state_of self.old) }
         ensures same { Lent self.old self.new }
-        ensures onward { IfNone result ((self.old.count < self.new.count) × (self.new.count ≤ limit)) }
     {
         let cell = self.fetch();
         let on = cell.on;
@@ -170,7 +147,7 @@ impl Board<'_, '_> {
         ensures same { Lent self.old self.new }
     {
         loop {
-            if let Some(ending) = self.step(limit) {
+            if let ControlFlow::Break(ending) = self.step(limit) {
                 return ending;
             }
         }
@@ -187,7 +164,7 @@ impl Board<'_, '_> {
             Phase::Loading | Phase::Running => {}
         }
         let ending = self.advance(limit);
-        self.phase = left_in(ending);
+        self.phase = Phase::from(ending);
         ending
     }
 

@@ -4,8 +4,10 @@ ghost use Rattle.avr.specs.Chip.{blank_core, put_of, get_of, valid_of};
 ghost use Rattle.board.specs.Cores.{core_of};
 
 use crate::chip::Chip;
+use crate::chip::registers::Registers;
 use avr::location::Location;
 
+// That the lent bytes stay the same ones (`lent`) is said by each method that changes a chip: no invariant speaks of before and after.
 impl<'m> Chip<'m> {
     /// The chip on lent bytes, all cleared.
     pub(crate) fn new(memory: &'m mut [u8]) -> Self
@@ -15,9 +17,7 @@ impl<'m> Chip<'m> {
     {
         let mut chip = Chip {
             memory,
-            registers: [0; 32],
-            carry: false,
-            zero: false,
+            registers: Registers::blank(),
         };
         chip.clear();
         chip
@@ -25,43 +25,39 @@ impl<'m> Chip<'m> {
 
     /// Sets every register, flag and byte to 0.
     pub(crate) fn clear(&mut self)
-        requires { length self.old.memory.now ≡ 65536 }
         ensures state { core_of self.new ≡ blank_core }
         ensures lent { self.new.memory.ghost_name ≡ self.old.memory.ghost_name }
     {
-        for i in 0..65536 {
-            self.memory[i] = 0;
-        }
-        self.registers = [0; 32];
-        self.carry = false;
-        self.zero = false;
+        self.memory.fill(0);
+        self.registers = Registers::blank();
     }
 
     /// Writes a byte to a place that there is.
     pub(crate) fn put(&mut self, location: Location, byte: u8)
-        requires { (valid_of location ≡ true) × (length self.old.memory.now ≡ 65536) }
+        requires { valid_of location ≡ true }
         ensures state { core_of self.new ≡ put_of location byte (core_of self.old) }
         ensures lent { self.new.memory.ghost_name ≡ self.old.memory.ghost_name }
     {
         match location {
-            Location::Register(d) => self.registers[d as usize] = byte,
+            Location::Register(d) => self.registers.bytes[d as usize] = byte,
             Location::Memory(a) => self.memory[a as usize] = byte,
         }
     }
 
     /// The byte at a place that there is.
     pub(crate) fn get(&self, location: Location) -> u8
-        requires { (valid_of location ≡ true) × (length self.now.memory.now ≡ 65536) }
+        requires { valid_of location ≡ true }
         ensures { result ≡ get_of location (core_of self.now) }
     {
         match location {
-            Location::Register(d) => self.registers[d as usize],
+            Location::Register(d) => self.registers.bytes[d as usize],
             Location::Memory(a) => self.memory[a as usize],
         }
     }
 }
 
 /// Whether there is such a place.
+// A match, since one arm is a comparison: `matches!` with an `if` would say it no plainer.
 pub(crate) fn is_valid(location: Location) -> bool
     ensures { result ≡ valid_of location }
 {

@@ -4,7 +4,6 @@ ghost use Rattle.words.specs.Operands.{Operands};
 ghost use Rattle.cells.specs.Cells.{test_in, onward as onward_of, way_by, cell_of, Shows};
 
 use crate::cell::{Cell, Leave, Test, Way};
-use crate::work::Work;
 use words::instruction::{Flag, Instruction};
 use words::route::Route;
 
@@ -24,6 +23,7 @@ fn test(instruction: Instruction) -> Test
             ..
         } => Test::Zero(set),
         Instruction::Binary { d, r, .. } => Test::Equal(d, r),
+        // Not met: only a branch and a cpse fork, and a conversion is total.
         _ => Test::Equal(0, 0),
     }
 }
@@ -34,7 +34,7 @@ fn onward(to: u32, instruction: Instruction) -> Way
 {
     match instruction {
         Instruction::Rjmp { .. } => Way::Leave(Leave::Jump(to)),
-        _ => Way::On(Work::new(instruction)),
+        _ => Way::On(instruction.into()),
     }
 }
 

@@ -1,5 +1,5 @@
 //! Sorting instructions into works.
-ghost use Rattle.std.specs.Prelude.{◌≡◌, ◌<◌};
+ghost use Rattle.std.specs.Prelude.{◌≡◌};
 ghost use Rattle.cells.specs.declared.work.Joining.TheVariants.{Difference};
 ghost use Rattle.cells.specs.Works.{joined as joined_of, quiet as quiet_of, access as access_of, product_work, binary_work, unary_work, reach_of, work_of};
 
@@ -7,7 +7,7 @@ use crate::work::{
     Access, ByteWork, Joining, Logic, Lone, Operand, PairWork, Quiet, Reach, Step, Work,
 };
 use alu::arithmetic::counterpart;
-use avr::table::{pointer, start};
+use avr::pointer::Pointer;
 use words::instruction::{BinaryOp, Instruction, Mode, UnaryOp};
 
 /// An operation on the register d and a second byte.
@@ -68,6 +68,7 @@ fn binary(op: BinaryOp, d: u8, operand: Operand) -> Work
 }
 
 /// The work of an operation on one register.
+// Kept a function, as `reach` below: a From would offer to all crates what is a step of the one From of this file.
 fn unary(op: UnaryOp) -> Lone
     ensures { result ≡ unary_work op }
 {
@@ -92,11 +93,9 @@ fn reach(mode: Mode) -> Reach
 }
 
 /// A load or a store of a register by a pointer.
-fn access(store: bool, register: u8, pointer: u16, reach: Reach) -> Work
-    requires { pointer < 31 }
+fn access(store: bool, register: u8, pointer: u8, reach: Reach) -> Work
     ensures { result ≡ access_of store register pointer reach }
 {
-    let pointer = pointer as u8;
     Work::Access(Access {
         store,
         register,
@@ -105,11 +104,11 @@ fn access(store: bool, register: u8, pointer: u16, reach: Reach) -> Work
     })
 }
 
-impl Work {
-    /// The work of an instruction.
-    pub fn new(instruction: Instruction) -> Work
-        ensures { result ≡ work_of instruction }
-    {
+/// The work of an instruction.
+impl From<Instruction> for Work {
+    ghost from_gives = { λ instruction work. work ≡ work_of instruction };
+
+    fn from(instruction: Instruction) -> Work {
         match instruction {
             Instruction::Binary { op, d, r } => binary(op, d, Operand::Register(r)),
             Instruction::Immediate { op, d, k } => binary(counterpart(op), d, Operand::Constant(k)),
@@ -119,18 +118,18 @@ impl Work {
                 d,
                 work: ByteWork::Lone(unary(op)),
             },
-            Instruction::Load { mode, d } => access(false, d, pointer(mode), reach(mode)),
-            Instruction::Store { mode, r } => access(true, r, pointer(mode), reach(mode)),
+            Instruction::Load { mode, d } => access(false, d, mode.pointer(), reach(mode)),
+            Instruction::Store { mode, r } => access(true, r, mode.pointer(), reach(mode)),
             Instruction::LoadDisplaced { base, q, d } => access(
                 false,
                 d,
-                start(base),
+                base.pointer(),
                 Reach::Displaced(q),
             ),
             Instruction::StoreDisplaced { base, q, r } => access(
                 true,
                 r,
-                start(base),
+                base.pointer(),
                 Reach::Displaced(q),
             ),
             Instruction::Clc => quiet(Quiet::Clc),

@@ -1,17 +1,18 @@
 -- The word's instruction encodes to the word.
-use Rattle.std.proofs.Common.{sym, ap, ◌∙◌, arith}
+use Rattle.std.proofs.Common.{◌≡◌, ℕ, ◌^◌, ◌<◌, Some, None, Option, option_and_then, refl, ◌∙◌, rules, arith}
 use Rattle.std.specs.Option.{option_map}
+use Rattle.words.specs.declared.instruction.Instruction.{Instruction}
+use Rattle.words.specs.Decode.{decode_of}
+use Rattle.words.specs.Encode.{encode_of}
 use Rattle.coding.proofs.Theorem.{inverse}
 use Rattle.coding.proofs.recode.Goals as goal
 
-pub returns-in-Some : goal.returns-in-Some
-returns-in-Some c =
-    let read = c.in-Some.ensures in
-    let word = c.args.word in
-    record {
-      answer = c.encode.ensures ∙ inverse.encodes word (omega arith) _ (sym read) ∙ ap (option_map (λ i. word)) read;
-      inverse = inverse;
-    }
+recoded : (w : ℕ) → w < 2 ^ 16 → (o : Option Instruction) → decode_of w ≡ o → option_and_then encode_of o ≡ option_map (λ i. w) o
+recoded w h None e = refl
+recoded w h (Some i) e = inverse.encodes w h i e
 
-pub returns-in-None : goal.returns-in-None
-returns-in-None c = record { answer = ap (option_map (λ i. c.args.word)) c.in-None.ensures; inverse = inverse }
+pub returns : goal.returns
+returns c =
+    let word = c.args.word in
+    let ran : c.and_then.result ≡ option_and_then encode_of (decode_of word) = search rules in
+    record { answer = ran ∙ recoded word (omega arith) (decode_of word) refl; inverse = inverse }

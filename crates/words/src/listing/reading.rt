@@ -11,19 +11,8 @@ use crate::listing::Listing;
 fn check_length(words: &[u16]) -> Result<(), WordFault>
     ensures { says word_refusal result ≡ length_of words.now }
 {
-    if words.len() == 0 || words.len() > 1024 {
+    if words.is_empty() || words.len() > 1024 {
         return Err(WordFault::Length);
-    }
-    Ok(())
-}
-
-/// Whether the word at an address decodes.
-fn check_word(words: &[u16], at: usize) -> Result<(), WordFault>
-    requires { (at < length words.now) × (at < 1024) }
-    ensures { says word_refusal result ≡ decodes_at words.now at }
-{
-    if Instruction::decode(words[at]).is_none() {
-        return Err(WordFault::Undecodable(at as u16));
     }
     Ok(())
 }
@@ -34,13 +23,14 @@ impl<'a> Listing<'a> {
         ensures { says word_refusal result ≡ legal_of words.now }
     {
         check_length(words)?;
-        for at in 0..words.len() {
-            check_word(words, at)?;
+        for (at, &word) in words.iter().enumerate() {
+            Instruction::decode(word).ok_or(WordFault::Undecodable(at as u16))?;
         }
         Ok(())
     }
 
     /// The listing of words that `check` has just accepted.
+    #[tactic(auto, using(crate::proofs::Legality::legal_decodes))]
     pub fn new(words: &'a [u16]) -> Self
         requires { legal_of words.now ≡ fine }
         ensures { result.words.now ≡ words.now }
@@ -59,21 +49,13 @@ impl<'a> Listing<'a> {
     pub fn word(&self, at: u16) -> Option<u16>
         ensures { result ≡ word_at self.now.words.now at }
     {
-        if (at as usize) < self.words.len() {
-            Some(self.words[at as usize])
-        } else {
-            None
-        }
+        self.words.get(usize::from(at)).copied()
     }
 
     /// The instruction at an address, if the address is in the listing.
     pub fn instruction(&self, at: u16) -> Option<Instruction>
         ensures { result ≡ instruction_at self.now.words.now at }
     {
-        if (at as usize) < self.words.len() {
-            Instruction::decode(self.words[at as usize])
-        } else {
-            None
-        }
+        self.word(at).and_then(Instruction::decode)
     }
 }

@@ -1,4 +1,4 @@
-use Rattle.std.proofs.Common.{◌≡◌, ℕ, List, length, Ok, Err, Result, sym, refl, ap, ◌∙◌, arith}
+use Rattle.std.proofs.Common.{◌≡◌, ℕ, List, length, Ok, Err, Result, sym, refl, ap, ◌∙◌}
 use Rattle.verdicts.specs.Verdict.{says, fine}
 use Rattle.verdicts.proofs.Firsts.{and_fine, then-on}
 use Rattle.avr.specs.Chip.{avr}
@@ -17,7 +17,7 @@ use Rattle.judge.proofs.judging.judge.Goals as goal
 -- an answer that says nothing is acceptance
 says_fine : (r : Result (Unit {0}) JudgeFault) → says judge_refusal r ≡ fine → r ≡ Ok tt
 says_fine (Ok x) e = refl
-says_fine (Err f) e = let z : ◌≡◌ {A = ℕ} 0 1 = cc in absurd (omega arith)
+says_fine (Err f) e = cc
 
 module _ (m : Meaning) (ws rows : List ℕ) where
   accepts : (r : Result (Unit {0}) JudgeFault) → says judge_refusal r ≡ judgement_of m ws rows → Exactly m ws rows r

@@ -1,14 +1,13 @@
-use Rattle.std.proofs.Common.{◌≡◌, ◌+◌, ◌≤◌, length}
-use Rattle.text.specs.Lines.{file_left, lines_of}
+use Rattle.std.proofs.Common.{◌≡◌, ◌+◌, ◌<◌, ◌^◌, length}
+use Rattle.std.specs.Iterator.Adapters.{enumerate_source, enumerate_count}
+use Rattle.text.specs.Lines.{lines_left, lines_of}
 use Rattle.routine.specs.Routines.{draft_of}
 use Rattle.routine.specs.Files.{lines_from}
 use Rattle.routine.proofs.files.read_lines.Given as goal
 
-abbrev pub invariant-loop-line : goal.invariant-loop-line
-invariant-loop-line l =
-    (lines_from (l.count + 1) (lines_of (file_left l.lines)) (draft_of l.routine) ≡ lines_from 1 (lines_of l.file) (draft_of l.initial.routine))
-    × (l.count + length (lines_of (file_left l.lines)) ≡ length (lines_of l.file))
-    × (l.count + length (file_left l.lines) ≤ length l.file)
-
-abbrev pub decreases-loop-line : goal.decreases-loop-line
-decreases-loop-line l = length (file_left l.lines)
+abbrev pub invariant-loop-before : goal.invariant-loop-before
+invariant-loop-before l =
+    (goal.iterator-loop-before).can_next l.before-iterator
+    × (goal.iterator-loop-before).is_finite l.before-iterator
+    × (lines_from (enumerate_count l.before-iterator + 1) (lines_left (enumerate_source l.before-iterator)) (draft_of l.routine) ≡ lines_from 1 (lines_of l.file) (draft_of l.initial.routine))
+    × (enumerate_count l.before-iterator + length (lines_left (enumerate_source l.before-iterator)) < 2 ^ 64)

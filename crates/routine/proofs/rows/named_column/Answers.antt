@@ -1,35 +1,20 @@
-use Rattle.std.proofs.Common.{rules}
+use Rattle.std.proofs.Common.{codes, ap, sym, arith, rules}
+use Rattle.std.proofs.lemmas.Slice.Eq.{text_from_reads}
 use Rattle.routine.specs.Rows.{column_by_own_name}
 use Rattle.routine.proofs.rows.named_column.Goals as goal
 
-pub returns-then-is : goal.returns-then-is
+pub returns-in-memory : goal.returns-in-memory
 unfolding column_by_own_name
-returns-then-is c = search rules
+returns-in-memory c = sym (ap column_by_own_name (text_from_reads c.args.name.now (codes "memory") (omega arith) (search rules)))
 
-pub returns-then-is-2 : goal.returns-then-is-2
+pub returns-in-region : goal.returns-in-region
 unfolding column_by_own_name
-returns-then-is-2 c = search rules
+returns-in-region c = sym (ap column_by_own_name (text_from_reads c.args.name.now (codes "region") (omega arith) (search rules)))
 
-pub returns-then-is-3 : goal.returns-then-is-3
+pub returns-in-remaining : goal.returns-in-remaining
 unfolding column_by_own_name
-returns-then-is-3 c = search rules
+returns-in-remaining c = sym (ap column_by_own_name (text_from_reads c.args.name.now (codes "remaining") (omega arith) (search rules)))
 
-pub returns-then-is-4 : goal.returns-then-is-4
+pub returns-in-function : goal.returns-in-function
 unfolding column_by_own_name
-returns-then-is-4 c = search rules
-
-pub returns-then-is-5 : goal.returns-then-is-5
-unfolding column_by_own_name
-returns-then-is-5 c = search rules
-
-pub returns-then-is-6 : goal.returns-then-is-6
-unfolding column_by_own_name
-returns-then-is-6 c = search rules
-
-pub returns-then-is-7 : goal.returns-then-is-7
-unfolding column_by_own_name
-returns-then-is-7 c = search rules
-
-pub returns-else-is-7 : goal.returns-else-is-7
-unfolding column_by_own_name
-returns-else-is-7 c = search rules
+returns-in-function c = sym (ap column_by_own_name (text_from_reads c.args.name.now (codes "function") (omega arith) (search rules)))

@@ -4,11 +4,7 @@ use Rattle.avr.proofs.Sounds.{positive}
 use Rattle.board.specs.States.{state_of, words_of}
 use Rattle.board.proofs.board.Board.run.Goals as goal
 
-pub returns : goal.returns
-returns c =
+pub returns-clause-counts : goal.returns-clause-counts
+returns-clause-counts c =
     let b = c.args.self.now in
-    record {
-      state = c.carry_on.ensures.state;
-      same = c.carry_on.ensures.same;
-      counts = counts (avr (words_of b)) (λ a. positive a (instruction_of (words_of b) a)) c.args.limit (state_of b);
-    }
+    counts (avr (words_of b)) (λ a. positive a (instruction_of (words_of b) a)) c.args.limit (state_of b)

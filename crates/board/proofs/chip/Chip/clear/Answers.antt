@@ -1,14 +1,13 @@
-use Rattle.std.proofs.Common.{◌∙◌, arith, length-set}
-use Rattle.board.proofs.Zeros.{zeros_more, zeros_all}
+use Rattle.std.proofs.Common.{◌≡◌, ℕ, false, List, [], length, replicate, ap, ap₂, ◌∙◌}
+use Rattle.avr.specs.Core.{Core, core}
+use Rattle.avr.specs.Chip.{blank_core}
+use Rattle.board.specs.declared.chip.registers.Registers.{Registers}
+use Rattle.board.specs.Cores.{bare, core_with}
 use Rattle.board.proofs.chip.Chip.clear.Goals as goal
 
-pub loop-i-preserved : goal.loop-i-preserved
-loop-i-preserved c =
-    let m = c.loop-i.self.memory.now in
-    (zeros_more m c.loop-i.i (omega (arith, c.loop-i.invariant.2)) c.loop-i.invariant.0, c.loop-i.invariant.1, length-set m c.loop-i.i 0 ∙ c.loop-i.invariant.2)
+cleared : (r : Registers) (m n : List ℕ) → bare r ≡ core (replicate 32 0) false false [] → n ≡ replicate (length m) 0 → length m ≡ 65536 → core_with r n ≡ blank_core
+cleared r m n p q l = ap₂ (λ (x : Core) n. core x.registers x.carry x.zero n) p (q ∙ ap (λ k. replicate {A = ℕ} k 0) l)
 
-pub returns : goal.returns
-returns c =
-    let m = c.loop-i.self.memory.now in
-    let e = zeros_all m c.loop-i.i 65536 c.loop-i.invariant.2 (omega arith) (omega arith) c.loop-i.invariant.0 in
-    record { state = cc; lent = c.loop-i.invariant.1 }
+pub returns-clause-state : goal.returns-clause-state
+returns-clause-state c =
+    cleared c.blank-self.result c.args.self.now.memory.now _ c.blank-self.ensures (c.fill.ensures.after (λ y h. h)) c.args.self.now.size

@@ -1,7 +1,7 @@
-use Rattle.std.proofs.Common.{refl, arith}
+use Rattle.std.proofs.Common.{refl}
 use Rattle.levels.specs.Tables.{every}
 use Rattle.levels.proofs.table.Table.trivial.Goals as goal
 
-pub invariant_of-result : goal.invariant_of-result
+pub invariant_of-result-clause-sound : goal.invariant_of-result-clause-sound
 unfolding every
-invariant_of-result c = record { size = (omega arith, omega arith); sound = refl }
+invariant_of-result-clause-sound c = refl

@@ -1,43 +1,28 @@
-use Rattle.std.proofs.Common.{rules}
+use Rattle.std.proofs.Common.{codes, ap, sym, arith, rules}
+use Rattle.std.proofs.lemmas.Slice.Eq.{text_from_reads}
 use Rattle.routine.specs.Keywords.{keyword_of}
 use Rattle.routine.proofs.keywords.Keyword.from_token.Goals as goal
 
-pub returns-then-is : goal.returns-then-is
+pub returns-in-words : goal.returns-in-words
 unfolding keyword_of
-returns-then-is c = search rules
+returns-in-words c = sym (ap keyword_of (text_from_reads c.args.token.now (codes "words") (omega arith) (search rules)))
 
-pub returns-then-is-2 : goal.returns-then-is-2
+pub returns-in-order : goal.returns-in-order
 unfolding keyword_of
-returns-then-is-2 c = search rules
+returns-in-order c = sym (ap keyword_of (text_from_reads c.args.token.now (codes "order") (omega arith) (search rules)))
 
-pub returns-then-is-3 : goal.returns-then-is-3
+pub returns-in-rows : goal.returns-in-rows
 unfolding keyword_of
-returns-then-is-3 c = search rules
+returns-in-rows c = sym (ap keyword_of (text_from_reads c.args.token.now (codes "rows") (omega arith) (search rules)))
 
-pub returns-then-is-4 : goal.returns-then-is-4
+pub returns-in-judge : goal.returns-in-judge
 unfolding keyword_of
-returns-then-is-4 c = search rules
+returns-in-judge c = sym (ap keyword_of (text_from_reads c.args.token.now (codes "judge") (omega arith) (search rules)))
 
-pub returns-then-is-5 : goal.returns-then-is-5
+pub returns-in-clear : goal.returns-in-clear
 unfolding keyword_of
-returns-then-is-5 c = search rules
+returns-in-clear c = sym (ap keyword_of (text_from_reads c.args.token.now (codes "clear") (omega arith) (search rules)))
 
-pub returns-then-is-6 : goal.returns-then-is-6
+pub returns-in-read : goal.returns-in-read
 unfolding keyword_of
-returns-then-is-6 c = search rules
-
-pub returns-then-is-7 : goal.returns-then-is-7
-unfolding keyword_of
-returns-then-is-7 c = search rules
-
-pub returns-then-is-8 : goal.returns-then-is-8
-unfolding keyword_of
-returns-then-is-8 c = search rules
-
-pub returns-then-is-9 : goal.returns-then-is-9
-unfolding keyword_of
-returns-then-is-9 c = search rules
-
-pub returns-else-is-9 : goal.returns-else-is-9
-unfolding keyword_of
-returns-else-is-9 c = search rules
+returns-in-read c = sym (ap keyword_of (text_from_reads c.args.token.now (codes "read") (omega arith) (search rules)))

@@ -1,19 +1,16 @@
-use Rattle.std.proofs.Common.{rules}
+use Rattle.std.proofs.Common.{codes, ap, sym, arith, rules}
+use Rattle.std.proofs.lemmas.Slice.Eq.{text_from_reads}
 use Rattle.routine.specs.Keywords.{kind_of}
 use Rattle.routine.proofs.keywords.Kind.from_token.Goals as goal
 
-pub returns-then-is : goal.returns-then-is
+pub returns-in-chain : goal.returns-in-chain
 unfolding kind_of
-returns-then-is c = search rules
+returns-in-chain c = sym (ap kind_of (text_from_reads c.args.token.now (codes "chain") (omega arith) (search rules)))
 
-pub returns-then-is-2 : goal.returns-then-is-2
+pub returns-in-compartments : goal.returns-in-compartments
 unfolding kind_of
-returns-then-is-2 c = search rules
+returns-in-compartments c = sym (ap kind_of (text_from_reads c.args.token.now (codes "compartments") (omega arith) (search rules)))
 
-pub returns-then-is-3 : goal.returns-then-is-3
+pub returns-in-table : goal.returns-in-table
 unfolding kind_of
-returns-then-is-3 c = search rules
-
-pub returns-else-is-3 : goal.returns-else-is-3
-unfolding kind_of
-returns-else-is-3 c = search rules
+returns-in-table c = sym (ap kind_of (text_from_reads c.args.token.now (codes "table") (omega arith) (search rules)))

@@ -1,15 +1,7 @@
-use Rattle.std.proofs.Common.{sym}
-use Rattle.levels.specs.Everys.{every_none, every_more, every_stop, every_all}
+use Rattle.std.proofs.Common.{rules, tests}
+use Rattle.levels.specs.Tables.{join_in, repeats}
+use Rattle.levels.proofs.Ranges.{every_from_all}
 use Rattle.levels.proofs.table.square.Square.is_semilattice.Goals as goal
 
-pub loop-a-init : goal.loop-a-init
-loop-a-init c = every_none _
-
-pub returns-then-not-can_repeat : goal.returns-then-not-can_repeat
-returns-then-not-can_repeat c = sym (every_stop _ c.loop-a.a _ (sym c.if-not-can_repeat.ensures) c.loop-a-test.true)
-
-pub loop-a-preserved : goal.loop-a-preserved
-loop-a-preserved c = every_more _ _ c.loop-a.invariant (sym c.if-not-can_repeat.ensures)
-
 pub returns : goal.returns
-returns c = sym (every_all _ _ _ c.loop-a.invariant c.loop-a-test.false c.loop-a.auto.a-end)
+returns c = every_from_all (repeats c.args.self.now.levels (join_in c.args.self.now.bytes.now c.args.self.now.levels)) c.args.self.now.levels _ _ _ c.all.ensures.ran (λ x b q k. search (rules, tests))

@@ -1,7 +1,0 @@
-use Rattle.std.proofs.Common.{◌≡◌, length}
-use Rattle.secrecy.specs.Rules.{row_rule}
-use Rattle.verdicts.specs.Verdict.{first, fine}
-use Rattle.judge.proofs.routine.Routine.check_rows.Given as goal
-
-abbrev pub invariant-loop-row : goal.invariant-loop-row
-invariant-loop-row g l = first (row_rule (g.O.Order.meaning l.order) (length l.self.words.now) l.self.rows.now) l.row ≡ fine

@@ -1,0 +1,73 @@
+//! Callers: which functions the words call, and so where a return may lead.
+ghost use Rattle.std.specs.Prelude.{◌≡◌, length};
+ghost use Rattle.verdicts.specs.Verdict.{says, first, and_then};
+ghost use Rattle.avr.specs.Chip.{kind_of};
+ghost use Rattle.secrecy.specs.Rules.{return_rule, finish_rule};
+ghost use Rattle.row_layout.specs.Views.{seen, chip};
+ghost use Rattle.judge.specs.Faults.{flow_refusal};
+ghost use Rattle.judge.specs.Worked.{callee_of, Callees};
+
+use crate::faults::FlowFault;
+use crate::judgement::departure::Departure;
+use crate::judgement::{CAPACITY, Judgement};
+use levels::order::Order;
+use row_layout::RoutineView;
+use std::array;
+use words::instruction::Instruction;
+use words::route::Route;
+
+/// The function that an instruction calls, if it calls one.
+fn callee(at: u16, instruction: Instruction) -> Option<u32>
+    ensures { result ≡ callee_of (kind_of at instruction) }
+{
+    match instruction.route(at) {
+        Route::Call(target) => Some(target),
+        Route::To(_) | Route::Fork(_, _) | Route::Return => None,
+    }
+}
+
+/// The function that each word calls.
+pub(crate) fn callees(routine: &RoutineView) -> [Option<u32>; CAPACITY]
+    ensures { Callees routine.now result }
+{
+    array::from_fn(|at| callee(at as u16, routine.instruction(at as u16)))
+}
+
+impl<O: Order> Departure<'_, O> {
+    /// The edge of a return to the word after one address, if what is called there is its function.
+    fn check_caller(&self, caller: u16, callee: Option<u32>, cycles: u8) -> Result<(), FlowFault>
+        requires { callee ≡ callee_of ((chip self.now.judgement.now.routine).kind caller) }
+        ensures { says flow_refusal result ≡ return_rule (O.Order.meaning self.now.judgement.now.order.now) (chip self.now.judgement.now.routine) (seen self.now.judgement.now.routine) self.now.at cycles caller }
+    {
+        let function = self.judgement.routine.function(u32::from(self.at));
+        if callee == Some(u32::from(function)) {
+            self.check_edge(u32::from(caller) + 1, cycles)
+        } else {
+            Ok(())
+        }
+    }
+
+    /// The edges of a return to the words after all calls of its function.
+    #[tactic(auto, using(verdicts::proofs::Firsts::first_none, verdicts::proofs::Firsts::first_more))]
+    fn check_callers(&self, cycles: u8) -> Result<(), FlowFault>
+        ensures { says flow_refusal result ≡ first (return_rule (O.Order.meaning self.now.judgement.now.order.now) (chip self.now.judgement.now.routine) (seen self.now.judgement.now.routine) self.now.at cycles) (length self.now.judgement.now.routine.words.now) }
+    {
+        let Judgement { callees, .. } = self.judgement;
+        for (caller, callee) in (0..self.judgement.len()).zip(callees) {
+            self.check_caller(caller, *callee, cycles)?;
+        }
+        Ok(())
+    }
+
+    /// The edges of a return: to its callers, and from function 0 to the finish row.
+    pub(crate) fn check_returns(&self, cycles: u8) -> Result<(), FlowFault>
+        ensures { says flow_refusal result ≡ and_then (first (return_rule (O.Order.meaning self.now.judgement.now.order.now) (chip self.now.judgement.now.routine) (seen self.now.judgement.now.routine) self.now.at cycles) (length self.now.judgement.now.routine.words.now)) (finish_rule (O.Order.meaning self.now.judgement.now.order.now) (chip self.now.judgement.now.routine) (seen self.now.judgement.now.routine) self.now.at cycles) }
+    {
+        self.check_callers(cycles)?;
+        if self.judgement.routine.function(u32::from(self.at)) == 0 {
+            self.check_edge(u32::from(self.judgement.len()), cycles)
+        } else {
+            Ok(())
+        }
+    }
+}

@@ -1,0 +1,20 @@
+//! What a word leaves behind.
+ghost use Rattle.judge.specs.Worked.{Departs};
+
+use crate::judgement::Judgement;
+use levels::order::Order;
+use row_layout::PLACES;
+
+/// How many levels there are after a word: one for each place.
+pub const LEVELS: usize = PLACES as usize;
+
+/// What the word at an address leaves behind, worked out once for all its edges: the level of each place after it, and its
+/// stake, the level of knowing which way is taken from there.
+#[derive(Drop)]
+pub struct Departure<'j, O: Order> {
+    pub judgement: &'j Judgement<'j, O>,
+    pub at: u16,
+    pub levels: [u16; LEVELS],
+    pub stake: u16,
+    ghost departs: { Departs (O.Order.meaning judgement.now.order.now) judgement.now.routine at levels stake },
+}

@@ -1,0 +1,95 @@
+//! Edges: their time, and the levels that flow along them.
+ghost use Rattle.std.specs.Prelude.{◌≡◌, ◌||◌};
+ghost use Rattle.verdicts.specs.Verdict.{says, first};
+ghost use Rattle.secrecy.specs.Rows.{places};
+ghost use Rattle.secrecy.specs.Rules.{outside, leaves as leaves_of, stays as stays_of, flow_rule, region_rule, edge_rule};
+ghost use Rattle.judge.specs.Faults.{flow_refusal};
+ghost use Rattle.row_layout.specs.Views.{seen, chip};
+
+use crate::faults::FlowFault;
+use crate::judgement::Judgement;
+use crate::judgement::departure::Departure;
+use levels::order::Order;
+use row_layout::{PLACES, REGION};
+
+impl<O: Order> Departure<'_, O> {
+    /// Whether an edge ends the region that it comes from, just in time.
+    fn leaves(&self, next: u32, cycles: u8) -> bool
+        ensures { result ≡ leaves_of (seen self.now.judgement.now.routine) self.now.at next cycles }
+    {
+        let judgement = self.judgement;
+        let at = u32::from(self.at);
+        next == u32::from(judgement.routine.meets(at))
+            && (judgement.is_outside(next) && judgement.routine.remaining(at) == u16::from(cycles))
+    }
+
+    /// Whether an edge stays in the region that it comes from, with so much less remaining.
+    fn stays(&self, next: u32, cycles: u8) -> bool
+        ensures { result ≡ stays_of (seen self.now.judgement.now.routine) self.now.at next cycles }
+    {
+        let judgement = self.judgement;
+        let at = u32::from(self.at);
+        judgement.routine.meets(next) == judgement.routine.meets(at)
+            && (judgement.is_inside(next)
+                && u32::from(judgement.routine.remaining(at))
+                    == u32::from(cycles) + u32::from(judgement.routine.remaining(next)))
+    }
+
+    /// Whether an edge, if it comes from inside a region, ends the region in time or stays in it.
+    fn is_timed(&self, next: u32, cycles: u8) -> bool
+        ensures { result ≡ (outside (seen self.now.judgement.now.routine) self.now.at || (leaves_of (seen self.now.judgement.now.routine) self.now.at next cycles || stays_of (seen self.now.judgement.now.routine) self.now.at next cycles)) }
+    {
+        self.judgement.is_outside(u32::from(self.at))
+            || self.leaves(next, cycles)
+            || self.stays(next, cycles)
+    }
+
+    /// Whether the level of each place after a word flows to its level in the next row.
+    fn check_levels(&self, next: u32) -> Result<(), FlowFault>
+        ensures { says flow_refusal result ≡ first (flow_rule (O.Order.meaning self.now.judgement.now.order.now) (chip self.now.judgement.now.routine) (seen self.now.judgement.now.routine) self.now.at next) places }
+    {
+        let Judgement { routine, order, .. } = self.judgement;
+        for (place, level) in (0..PLACES).zip(&self.levels) {
+            if !order.flows(*level, routine.level(next, place)) {
+                return Err(FlowFault::Level {
+                    at: self.at,
+                    next,
+                    place,
+                });
+            }
+        }
+        Ok(())
+    }
+
+    /// Whether, on an edge from inside a region to inside one, the stake flows to the region level of the next row.
+    fn check_region(&self, next: u32) -> Result<(), FlowFault>
+        ensures { says flow_refusal result ≡ region_rule (O.Order.meaning self.now.judgement.now.order.now) (chip self.now.judgement.now.routine) (seen self.now.judgement.now.routine) self.now.at next }
+    {
+        let judgement = self.judgement;
+        if judgement.is_outside(u32::from(self.at))
+            || judgement.is_outside(next)
+            || judgement
+                .order
+                .flows(self.stake, judgement.routine.region(next))
+        {
+            Ok(())
+        } else {
+            Err(FlowFault::Level {
+                at: self.at,
+                next,
+                place: REGION,
+            })
+        }
+    }
+
+    /// The rules of one edge: its time, then its levels, place by place, then its region level.
+    pub(crate) fn check_edge(&self, next: u32, cycles: u8) -> Result<(), FlowFault>
+        ensures { says flow_refusal result ≡ edge_rule (O.Order.meaning self.now.judgement.now.order.now) (chip self.now.judgement.now.routine) (seen self.now.judgement.now.routine) self.now.at next cycles }
+    {
+        if !self.is_timed(next, cycles) {
+            return Err(FlowFault::Time { at: self.at, next });
+        }
+        self.check_levels(next)?;
+        self.check_region(next)
+    }
+}

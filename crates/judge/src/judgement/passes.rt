@@ -1,0 +1,82 @@
+//! The passes over a routine: all rows, all addresses, all edges.
+ghost use Rattle.std.specs.Prelude.{◌≡◌, length};
+ghost use Rattle.verdicts.specs.Verdict.{says};
+ghost use Rattle.secrecy.specs.Rules.{row_rules, address_rules, edges_from, edge_rules};
+ghost use Rattle.row_layout.specs.Views.{seen, chip};
+ghost use Rattle.judge.specs.Faults.{row_refusal, flow_refusal};
+
+use crate::faults::{FlowFault, RowFault};
+use crate::judgement::Judgement;
+use crate::judgement::departure::Departure;
+use levels::order::Order;
+use words::route::Route;
+
+// The loops count rows and addresses, which the checks take: rows are read by the total `cell`, which the rules speak of.
+impl<O: Order> Judgement<'_, O> {
+    /// All rows in turn, the finish row too.
+    #[tactic(auto, using(verdicts::proofs::Firsts::first_none, verdicts::proofs::Firsts::first_more))]
+    pub(crate) fn check_rows(&self) -> Result<(), RowFault>
+        ensures { says row_refusal result ≡ row_rules (O.Order.meaning self.now.order.now) (length self.now.routine.words.now) self.now.routine.rows.now }
+    {
+        for row in 0..=self.len() {
+            self.check_row(row)?;
+        }
+        Ok(())
+    }
+
+    /// All addresses in turn.
+    #[tactic(auto, using(verdicts::proofs::Firsts::first_none, verdicts::proofs::Firsts::first_more))]
+    pub(crate) fn check_addresses(&self) -> Result<(), FlowFault>
+        ensures { says flow_refusal result ≡ address_rules (O.Order.meaning self.now.order.now) (chip self.now.routine) (seen self.now.routine) }
+    {
+        for at in 0..self.len() {
+            self.check_address(at)?;
+        }
+        Ok(())
+    }
+
+    /// What the word at an address leaves behind.
+    fn depart(&self, at: u16) -> Departure<'_, O>
+        ensures at { result.at ≡ at }
+        ensures judgement { result.judgement.now ≡ self.now }
+    {
+        let instruction = self.routine.instruction(at);
+        Departure {
+            judgement: self,
+            at,
+            levels: self.levels_after(at, instruction),
+            stake: self.order.join(
+                self.routine.region(u32::from(at)),
+                self.deciding(at, instruction),
+            ),
+        }
+    }
+
+    /// The edges of the word at an address, in their order.
+    fn check_edges_from(&self, at: u16) -> Result<(), FlowFault>
+        ensures { says flow_refusal result ≡ edges_from (O.Order.meaning self.now.order.now) (chip self.now.routine) (seen self.now.routine) at ((chip self.now.routine).kind at) }
+    {
+        let instruction = self.routine.instruction(at);
+        let departure = self.depart(at);
+        match instruction.route(at) {
+            Route::To(next) => departure.check_edge(next, instruction.cycles(false)),
+            Route::Fork(on, aside) => {
+                departure.check_edge(on, instruction.cycles(false))?;
+                departure.check_edge(aside, instruction.cycles(true))
+            }
+            Route::Call(target) => departure.check_edge(target, instruction.cycles(true)),
+            Route::Return => departure.check_returns(instruction.cycles(true)),
+        }
+    }
+
+    /// All edges in turn, by the address that they leave.
+    #[tactic(auto, using(verdicts::proofs::Firsts::first_none, verdicts::proofs::Firsts::first_more))]
+    pub(crate) fn check_edges(&self) -> Result<(), FlowFault>
+        ensures { says flow_refusal result ≡ edge_rules (O.Order.meaning self.now.order.now) (chip self.now.routine) (seen self.now.routine) }
+    {
+        for at in 0..self.len() {
+            self.check_edges_from(at)?;
+        }
+        Ok(())
+    }
+}
