@@ -54,6 +54,7 @@ fn main(rt: HostRuntime) -> ExitCode {
 }
 
 /// Carries out what the arguments name, and answers whether all of it could be.
+// A bool and no error: a file that cannot be read is no reason to leave the others, and the status is one of two.
 fn run(rt: &HostRuntime) -> io::Result<bool> {
     let mut names = env::args(rt)?.skip(1).peekable();
     if names.peek().is_none() {

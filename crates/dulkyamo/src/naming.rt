@@ -5,6 +5,7 @@ use orders::written::{OrderText, SimpleText};
 use std::{fmt, io};
 
 /// An order as it is written, in short.
+// A call has a wrapper of this name too, in its own module: each is one text of another type.
 #[derive(Clone, Copy)]
 struct Written<'a>(&'a SimpleText);
 

@@ -35,6 +35,7 @@ fn padded(bytes: &[u8]) -> [u8; 256]
 
 impl Table {
     /// The table of one level, the place that `fill` fills.
+    // The project asks for such a place, which a refused `fill` leaves as it is.
     pub fn trivial() -> Table
         ensures levels { result.levels ≡ 1 }
         ensures meaning { table result.levels result.joins ≡ table 1 (0 ∷ []) }

@@ -23,6 +23,7 @@ pub fn cell(words: usize, rows: &[u16], row: u32, column: u16) -> u16
 /// A routine as it is lent: its words, and the numbers of its rows, one row for each word and after them the finish row. Any words and
 /// any numbers may be read: past the last word there is a nop, and past the finish row, past the last place and where numbers are
 /// missing, there is 0.
+// One slice and not a slice of rows: a file, and whoever calls the judge, may give any count of numbers.
 #[derive(Clone, Copy)]
 pub struct RoutineView<'a> {
     pub words: &'a [u16],

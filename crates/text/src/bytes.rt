@@ -25,7 +25,7 @@ pub fn is_solid(byte: u8) -> bool
 }
 
 /// The longest front whose bytes all pass a test, and what stands behind it.
-pub fn cut<F: Fn(u8) -> bool>(bytes: &[u8], passes: F) -> (&[u8], &[u8])
+pub(crate) fn cut<F: Fn(u8) -> bool>(bytes: &[u8], passes: F) -> (&[u8], &[u8])
     requires { F.IsAlwaysCallable passes }
     ensures front { (test : _) → Computes (F.post passes) test → result.0.now ≡ front test bytes.now }
     ensures behind { (test : _) → Computes (F.post passes) test → result.1.now ≡ behind test bytes.now }
