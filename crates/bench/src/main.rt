@@ -108,6 +108,7 @@ fn measure(rt: &HostRuntime, board: &mut Board, runs: u32) -> anyhow::Result<()>
 }
 
 /// How many long runs the program is asked for, if it is called with a number.
+// `judging_bench` has these lines too: a crate for the two would be longer.
 fn runs_asked(rt: &HostRuntime) -> anyhow::Result<Option<u32>> {
     let word = env::args(rt)?.nth(1);
     Ok(word.map(|word| word.as_str().parse()).transpose()?)

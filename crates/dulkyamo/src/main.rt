@@ -154,7 +154,7 @@ fn print_refusal(rt: &HostRuntime, fault: WordFault, words: &[u16]) -> io::Resul
 fn print_listing(rt: &HostRuntime, listing: Listing<'_>) -> io::Result<()> {
     let len = listing.len();
     println!(rt; "listing {len} words")?;
-    // An address, by which a listing is asked for a word and its instruction.
+    // Over addresses: the listing answers an Option for each, so there is nothing to iterate.
     for at in 0..len {
         print_word(rt, listing, at)?;
     }

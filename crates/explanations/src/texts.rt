@@ -66,6 +66,7 @@ impl Refusal<'_> {
     }
 
     /// What is wrong with the words.
+    // The program says the same of the length where it lists a routine, and of a word that does not decode which it is.
     fn explain_words<W: fmt::Write>(
         &self,
         f: &mut fmt::Formatter<W>,

@@ -49,6 +49,7 @@ pub enum FlowFault {
     Level { at: u16, next: u32, place: u16 },
 }
 
+// As at `RowFault`: variants with fields have no number of their own.
 impl FlowFault {
     /// Its number in the table of refusals.
     pub fn number(self) -> u8
@@ -75,6 +76,7 @@ pub enum JudgeFault {
     Flow(FlowFault),
 }
 
+// As at `RowFault`: the number is that of the fault inside.
 impl JudgeFault {
     /// Its number in the table of refusals.
     pub fn number(self) -> u8

@@ -34,7 +34,7 @@ pub enum RowName {
 }
 
 /// The column that has this name of its own, if one has.
-// These are the names of its `Display`, the other way round.
+// A match, as those of the keywords: a search of a table would be longer than the table.
 #[tactic(auto, unfolding(crate::specs::Rows::column_by_own_name))]
 fn named_column(name: &[u8]) -> Option<Column>
     ensures { result ≡ column_by_own_name name.now }

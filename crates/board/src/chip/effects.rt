@@ -52,7 +52,7 @@ impl Chip<'_> {
     }
 
     /// Carries a word's work out.
-    // A match on kinds of work, and no closure for each: the board's speed stands on it (docs/SPEED.md).
+    // Data and no closure: cells are kept in fixed memory, and the gate lets no function hand a boxed closure out.
     pub(crate) fn perform(&mut self, work: Work)
         requires { Fits work }
         ensures state { core_of self.new ≡ work_effect work (core_of self.old) }
