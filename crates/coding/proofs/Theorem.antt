@@ -1,6 +1,6 @@
 -- Decoding and encoding are inverse to each other.
-use Rattle.std.proofs.Common.{◌≡◌, ℕ, ◌^◌, ◌<◌, Bool, true, false, cond, Some, None, refl, subst}
-use Rattle.std.proofs.lemmas.Option.{none-some}
+use Rattle.std.proofs.Common.{◌≡◌, ℕ, ◌^◌, ◌<◌, true, Some, subst}
+use Rattle.std.proofs.lemmas.Option.{cond_some}
 use Rattle.words.specs.declared.instruction.Instruction.{Instruction}
 use Rattle.words.specs.Decode.{readings, decode_of}
 use Rattle.words.specs.Encode.{encodable, word_of, encode_of}
@@ -8,11 +8,6 @@ use Rattle.coding.specs.Inverse.{Inverse}
 use Rattle.coding.proofs.Sole.{sole_reading}
 use Rattle.coding.proofs.Readings.{first_encodes, reading_first, one_place}
 use Rattle.coding.proofs.Words.{place, own}
-
--- a value that is there only if a test passes
-there : {A : Type 0} (b : Bool) (x y : A) → cond b (Some x) None ≡ Some y → (b ≡ true) × (x ≡ y)
-there true x y e = (refl, cc)
-there false x y e = absurd (none-some _ e)
 
 encodes : (w : ℕ) → w < 2 ^ 16 → (i : Instruction) → decode_of w ≡ Some i → encode_of i ≡ Some w
 unfolding decode_of
@@ -27,7 +22,7 @@ word_decodes i h =
 
 decodes : (w : ℕ) (i : Instruction) → encode_of i ≡ Some w → (w < 2 ^ 16) × (decode_of w ≡ Some i)
 decodes w i e =
-    let fit = there (encodable i) (word_of i) w e in
+    let fit = cond_some (encodable i) (word_of i) w e in
     subst (λ (v : ℕ). (v < 2 ^ 16) × (decode_of v ≡ Some i)) fit.1 (word_decodes i fit.0)
 
 pub inverse : Inverse

@@ -1,80 +1,33 @@
 -- What the rules mean: the checks find nothing if rows are accepted, and only then.
-use Rattle.std.proofs.Common.{◌≡◌, ℕ, ◌+◌, ◌*◌, ◌<◌, ◌≤◌, Bool, true, false, ◌&&◌, ◌||◌, eqb, ltb, ◌⊎◌, List, length, Decides, sym, refl, ap, ◌∙◌, inl, inr, ⊎_elim, arith, ltb-false, ltb-true, lt-ltb}
-use borrow.Author.Tests.{both_ways}
-use Rattle.std.proofs.lemmas.Bool.Decides.{Decides-eqb, Decides-ltb, Decides-and, Decides-or, Decides-like}
-use Rattle.std.proofs.lemmas.Bool.{cases_lt, or_right}
+use Rattle.std.proofs.Common.{rules as sets, ◌≡◌, ℕ, ◌+◌, ◌*◌, ◌<◌, ◌≤◌, true, eqb, ◌⊎◌, List, length, arith, lt-ltb}
+use Rattle.std.proofs.lemmas.Bool.Decides.{Decides-eqb}
 use Rattle.verdicts.specs.Verdict.{first}
 use Rattle.levels.specs.Order.{Meaning}
 use Rattle.machine.specs.Machine.{Machine, Kind, plain, forks, calls, rets}
 use Rattle.secrecy.specs.Rows.{Rows, rows_of, cell, places, coded, columns, region_column}
 use Rattle.secrecy.specs.Flow.{deciding, stake}
-use Rattle.secrecy.specs.Rules.{outside, local, bare_outside, joins_in_listing, function_in_listing, begins_at_zero, bare_finish, shaped, keeps_function, bounded, leaves, stays, length_rule, held_rule, shape_rule, inside_rule, bounds_rule, deciding_rule, time_rule, flow_rule, region_rule, edge_rule, return_rule, finish_rule, edges_from, address_rule, address_rules, edge_rules, row_rule, row_rules, rules_of}
-use Rattle.secrecy.specs.Accepted.{Shape, Leaves, Stays, Flows, Edge, WordRule, Accepts, RulesFor}
-use Rattle.secrecy.proofs.Says.{Says, says_like, says_rule, says_then, says_first, says_if, says_calls, decides_unless, decides_at_zero, decides_above}
-
--- a test is what it tests
-itself : (t : Bool) → Decides t (t ≡ true)
-itself t = (λ e. e, λ e. e)
-
--- a test that never holds, and one that always does
-fails : Decides false ⊥
-fails = (both_ways false refl, absurd)
-
-passes : Decides true (Unit {0})
-passes = (λ e. tt, λ u. refl)
+use Rattle.secrecy.specs.Rules.{length_rule, held_rule, shape_rule, time_rule, flow_rule, region_rule, edge_rule, return_rule, finish_rule, edges_from, address_rule, address_rules, edge_rules, row_rule, row_rules, rules_of}
+use Rattle.secrecy.specs.Accepted.{Shape, Flows, WordRule, Accepts, RulesFor}
+use Rattle.secrecy.proofs.Says.{Says, says_like, says_rule, says_then, says_first, says_if, says_calls}
 
 -- The shape of a row.
 module _ (n : ℕ) (R : Rows) where
-  -- no region level and no join address
-  abbrev Bare : ℕ → Type 0
-  Bare row = (R.region row ≡ 0) × (R.meets row ≡ 0)
-
-  bare : (row : ℕ) → Decides (eqb (R.region row) 0 && eqb (R.meets row) 0) (Bare row)
-  bare row = Decides-and _ _ (Decides-eqb (R.region row) 0) (Decides-eqb (R.meets row) 0)
-
-  -- what is asked of the finish row
-  abbrev Finish : ℕ → Type 0
-  Finish row = Bare row × ((R.remaining row ≡ 0) × (R.function row ≡ 0))
-
-  finish : (row : ℕ) → row ≤ n → Decides (bare_finish n R row) (row ≡ n → Finish row)
-  finish row l =
-      decides_unless (ltb row n) _ (λ e q. omega (arith, ltb-true row n e)) (λ e. omega (arith, ltb-false row n e))
-      (Decides-and _ _ (bare row) (Decides-and _ _ (Decides-eqb (R.remaining row) 0) (Decides-eqb (R.function row) 0)))
-
-  -- the parts of a row's shape, in the order of its test
-  abbrev Parts : ℕ → Type 0
-  Parts row =
-      (R.remaining row ≡ 0 → Bare row) × ((0 < R.remaining row → R.meets row < n) × ((R.function row < n) × ((row ≡ 0 → R.function row ≡ 0) × (row ≡ n → Finish row))))
-
-  parts : (row : ℕ) → row ≤ n → Decides (shaped n R row) (Parts row)
-  parts row l =
-      Decides-and (bare_outside n R row) _ (decides_at_zero (R.remaining row) _ (bare row))
-      (Decides-and (joins_in_listing n R row) _ (decides_above (R.remaining row) _ (Decides-ltb (R.meets row) n))
-      (Decides-and (function_in_listing n R row) _ (Decides-ltb (R.function row) n)
-      (Decides-and (begins_at_zero n R row) (bare_finish n R row) (decides_at_zero row _ (Decides-eqb (R.function row) 0)) (finish row l))))
-
-  shape_from : (row : ℕ) → Parts row → Shape n R row
-  shape_from row p =
-      record {
-        outside = p.0;
-        inside = p.1.0;
-        listed = p.1.1.0;
-        begin = p.1.1.1.0;
-        finish = λ e. let f = p.1.1.1.1 e in (f.0.0, f.0.1, f.1.0, f.1.1);
-      }
-
-  shape_parts : (row : ℕ) → Shape n R row → Parts row
-  shape_parts row s = (s.outside, (s.inside, (s.listed, (s.begin, λ e. let f = s.finish e in ((f.0, f.1), (f.2, f.3))))))
-
   shape_says : (row : ℕ) → row ≤ n → Says (shape_rule n R row) (Shape n R row)
-  shape_says row l = says_rule _ _ _ (Decides-like (shaped n R row) (shape_from row) (shape_parts row) (parts row l))
+  shape_says row l =
+      says_rule _ _ _ (
+        (λ e. record {
+          outside = search (sets, arith);
+          inside = search (sets, arith);
+          listed = search (sets, arith);
+          begin = search (sets, arith);
+          finish = search (sets, arith);
+        }),
+        λ s. search (sets, arith),
+      )
 
   -- an edge that keeps in
   abbrev Kept : ℕ → ℕ → Type 0
   Kept a b = (b < n) × (R.function b ≡ R.function a)
-
-  kept : (a b : ℕ) → Decides (keeps_function n R a b) (Kept a b)
-  kept a b = Decides-and _ _ (Decides-ltb b n) (Decides-eqb (R.function b) (R.function a))
 
   -- where a word may lead, by its kind
   abbrev Bounded : ℕ → Kind → Type 0
@@ -83,12 +36,6 @@ module _ (n : ℕ) (R : Rows) where
   Bounded a (calls t c) = ((t < n) × (R.function t ≡ t)) × Kept a (a + 1)
   Bounded a (rets c) = Unit {0}
 
-  bound : (a : ℕ) (k : Kind) → Decides (bounded n R a k) (Bounded a k)
-  bound a (plain b c) = kept a b
-  bound a (forks qs b c b' c') = Decides-and _ _ (kept a b) (kept a b')
-  bound a (calls t c) = Decides-and _ _ (Decides-and _ _ (Decides-ltb t n) (Decides-eqb (R.function t) t)) (kept a (a + 1))
-  bound a (rets c) = passes
-
 module _ (R : Rows) where
   -- a word that may stand where it does
   abbrev Free : ℕ → Kind → Type 0
@@ -96,15 +43,6 @@ module _ (R : Rows) where
   Free a (forks qs b c b' c') = Unit {0}
   Free a (calls t c) = R.remaining a ≡ 0
   Free a (rets c) = R.remaining a ≡ 0
-
-  barred : (r : ℕ) → Decides (eqb r 0 || false) (r ≡ 0)
-  barred r = Decides-like (eqb r 0 || false) (⊎_elim (λ e. e) absurd) inl (Decides-or (eqb r 0) false (Decides-eqb r 0) fails)
-
-  free : (a : ℕ) (k : Kind) → Decides (outside R a || local k) (Free a k)
-  free a (plain b c) = (λ e. tt, λ u. or_right (outside R a) true refl)
-  free a (forks qs b c b' c') = (λ e. tt, λ u. or_right (outside R a) true refl)
-  free a (calls t c) = barred (R.remaining a)
-  free a (rets c) = barred (R.remaining a)
 
   -- an edge that stays in the region, its region level aside
   abbrev Remains : ℕ → ℕ → ℕ → Type 0
@@ -118,16 +56,6 @@ module _ (R : Rows) where
   abbrev Timed : ℕ → ℕ → ℕ → Type 0
   Timed a b c = 0 < R.remaining a → Ends a b c ⊎ Remains a b c
 
-  ends : (a b c : ℕ) → Decides (leaves R a b c) (Ends a b c)
-  ends a b c = Decides-and _ _ (Decides-eqb b (R.meets a)) (Decides-and _ _ (Decides-eqb (R.remaining b) 0) (Decides-eqb (R.remaining a) c))
-
-  remains : (a b c : ℕ) → Decides (stays R a b c) (Remains a b c)
-  remains a b c =
-      Decides-and _ _ (Decides-eqb (R.meets b) (R.meets a)) (Decides-and _ _ (Decides-ltb 0 (R.remaining b)) (Decides-eqb (R.remaining a) (c + R.remaining b)))
-
-  time_says : (a b c : ℕ) → Says (time_rule R a b c) (Timed a b c)
-  time_says a b c = says_rule _ _ _ (decides_above (R.remaining a) _ (Decides-or _ _ (ends a b c) (remains a b c)))
-
 module _ {B V W : Type 0} (m : Meaning) (M : Machine B V W) (R : Rows) where
   -- the region level of an edge that stays
   abbrev Raises : ℕ → ℕ → Type 0
@@ -139,9 +67,8 @@ module _ {B V W : Type 0} (m : Meaning) (M : Machine B V W) (R : Rows) where
 
   edge_says : (a b c : ℕ) → Says (edge_rule m M R a b c) (Passes a b c)
   edge_says a b c =
-      says_then (time_rule R a b c) _ (time_says R a b c)
-      (says_then (first (flow_rule m M R a b) places) (region_rule m M R a b) (says_first _ (flow_rule m M R a b) places (λ p l. says_rule _ _ _ (itself _)))
-      (says_rule _ _ _ (decides_above (R.remaining a) _ (decides_above (R.remaining b) _ (itself _)))))
+      says_then (time_rule R a b c) _ (grind arith)
+      (says_then (first (flow_rule m M R a b) places) (region_rule m M R a b) (says_first _ (flow_rule m M R a b) places (λ p l. grind arith)) (grind arith))
 
   -- what is asked of the edges of a word
   abbrev PassesAll : ℕ → Kind → Type 0
@@ -159,63 +86,22 @@ module _ {B V W : Type 0} (m : Meaning) (M : Machine B V W) (R : Rows) where
       (says_first _ (return_rule m M R a c) M.size (λ b l. says_calls (M.kind b) (R.function a) (edge_rule m M R a (b + 1) c) (edge_says a (b + 1) c)))
       (says_if (eqb (R.function a) 0) (edge_rule m M R a M.size c) (Decides-eqb (R.function a) 0) (edge_says a M.size c))
 
-  -- an edge of a word that goes on or forks
-  edge_from : (a b c : ℕ) → Kept M.size R a b → Passes a b c → Edge m M R a b c
-  edge_from a b c k p =
-      record {
-        listed = k.0;
-        function = k.1;
-        timed = λ i. ⊎_elim
-            (λ (h : Ends R a b c). inl (record { there = h.0; outside = h.1.0; all = h.1.1 }))
-            (λ (h : Remains R a b c). inr (record { same = h.0; inside = h.1.0; less = h.1.1; region = p.1.1 i h.1.0 }))
-            (p.0 i);
-        levels = p.1.0;
-      }
-
-  edge_parts : (a b c : ℕ) → Edge m M R a b c → Kept M.size R a b × Passes a b c
-  edge_parts a b c e = (
-    (e.listed, e.function),
-    (
-      (λ i. ⊎_elim
-          (λ (h : Leaves R a b c). inl (h.there, (h.outside, h.all)))
-          (λ (h : Stays m M R a b c). inr (h.same, (h.inside, h.less)))
-          (e.timed i)),
-      (e.levels, λ i j. ⊎_elim (λ (h : Leaves R a b c). absurd (omega (arith, h.outside))) (λ (h : Stays m M R a b c). h.region) (e.timed i)),
-    ),
-  )
-
-  -- an edge of a word outside has its levels only
-  calm : (a b c : ℕ) → R.remaining a ≡ 0 → Flows m M R a b → Passes a b c
-  calm a b c o f = ((λ i. absurd (omega arith)), (f, λ i j. absurd (omega arith)))
-
   -- all that is asked of a word, but for its decision
   abbrev Standing : ℕ → Kind → Type 0
   Standing a k = Free R a k × (Bounded M.size R a k × PassesAll a k)
 
   word_from : (a : ℕ) (k : Kind) → Standing a k → WordRule m M R a k
-  word_from a (plain b c) h = edge_from a b c h.1.0 h.1.1
-  word_from a (forks qs b c b' c') h = (edge_from a b c h.1.0.0 h.1.1.0, edge_from a b' c' h.1.0.1 h.1.1.1)
-  word_from a (calls t c) h =
-      let k = h.1.0 in
-      record { outside = h.0; listed = k.0.0; named = k.0.1; back = k.1.0; function = k.1.1; levels = h.1.1.1.0 }
-  word_from a (rets c) h = record { outside = h.0; levels = λ b d l i. (h.1.1.0 b l d i).1.0; finish = λ e. (h.1.1.1 e).1.0 }
+  word_from a k h = grind arith
 
   word_parts : (a : ℕ) (k : Kind) → WordRule m M R a k → Standing a k
-  word_parts a (plain b c) w = (tt, edge_parts a b c w)
-  word_parts a (forks qs b c b' c') w = let p = edge_parts a b c w.0 in let q = edge_parts a b' c' w.1 in (tt, ((p.0, q.0), (p.1, q.1)))
-  word_parts a (calls t c) w = (w.outside, (((w.listed, w.named), (w.back, w.function)), calm a t c w.outside w.levels))
-  word_parts a (rets c) w =
-      (w.outside, (tt, ((λ b l d i. calm a (b + 1) c w.outside (w.levels b d l i)), λ e. calm a M.size c w.outside (w.finish e))))
+  word_parts a k w = grind arith
 
   -- what is asked of an address on its own
   abbrev Addressed : ℕ → Type 0
   Addressed a = Free R a (M.kind a) × (Bounded M.size R a (M.kind a) × (R.remaining a ≡ 0 → deciding m M R a ≡ 0))
 
   address_says : (a : ℕ) → Says (address_rule m M R a) (Addressed a)
-  address_says a =
-      says_then (inside_rule M R a) _ (says_rule _ _ _ (free R a (M.kind a)))
-      (says_then (bounds_rule M R a) (deciding_rule m M R a) (says_rule _ _ _ (bound M.size R a (M.kind a)))
-      (says_rule _ _ _ (decides_at_zero (R.remaining a) _ (Decides-eqb (deciding m M R a) 0))))
+  address_says a = grind arith
 
 -- The rows of a list.
 module _ (m : Meaning) (n : ℕ) (rows : List ℕ) where
@@ -225,19 +111,11 @@ module _ (m : Meaning) (n : ℕ) (rows : List ℕ) where
 
   row_says : (row : ℕ) → row < n + 1 → Says (row_rule m n rows row) (Coded row × Shape n (rows_of n rows) row)
   row_says row l =
-      says_then (first (held_rule m n rows row) coded) (shape_rule n (rows_of n rows) row) (says_first _ (held_rule m n rows row) coded (λ column k. says_rule _ _ _ (itself _)))
-      (shape_says n (rows_of n rows) row (omega arith))
+      says_then (first (held_rule m n rows row) coded) (shape_rule n (rows_of n rows) row) (says_first _ (held_rule m n rows row) coded (λ column k. grind arith)) (shape_says n (rows_of n rows) row (omega arith))
 
   -- the codes of a row are the levels of its places and its region level
-  level_is : (row p : ℕ) → p < places → (rows_of n rows).level row p ≡ cell n rows row p
-  level_is row p l = rw (lt-ltb p places l)
-
   coded_from : (row : ℕ) → ((p : ℕ) → p < places → m.held ((rows_of n rows).level row p) ≡ true) → m.held ((rows_of n rows).region row) ≡ true → Coded row
-  coded_from row levels region column l =
-      ⊎_elim
-      (λ (k : column < places). ap m.held (sym (level_is row column k)) ∙ levels column k)
-      (λ (k : places ≤ column). let e : column ≡ region_column = omega arith in rw e region)
-      (cases_lt column places)
+  coded_from row levels region column l = grind arith
 
 module _ {B V W : Type 0} (m : Meaning) (M : Machine B V W) (rows : List ℕ) where
   abbrev R : Rows
@@ -266,7 +144,7 @@ module _ {B V W : Type 0} (m : Meaning) (M : Machine B V W) (rows : List ℕ) wh
       let edge = h.1.1.1 in (
         h.0,
         record {
-          held = λ a p l k. rw (level_is m M.size rows a p k) ((row a (omega arith)).0 p (omega arith));
+          held = λ a p l k. rw (lt-ltb p places k) ((row a (omega arith)).0 p (omega arith));
           regions = λ a l. (row a (omega arith)).0 region_column (omega arith);
           shapes = λ a l. (row a (omega arith)).1;
           words = λ a l. word_from m M R a (M.kind a) ((address a l).0, ((address a l).1.0, edge a l));
@@ -285,8 +163,5 @@ module _ {B V W : Type 0} (m : Meaning) (M : Machine B V W) (rows : List ℕ) wh
         ),
       )
 
-  rules_say : Says (rules_of m M rows) (Accepts m M rows)
-  rules_say = says_like (rules_of m M rows) accepts_from accepts_all all_say
-
 pub rules : {B V W : Type 0} → RulesFor B V W
-rules m M rows = rules_say m M rows
+rules m M rows = says_like (rules_of m M rows) (accepts_from m M rows) (accepts_all m M rows) (all_say m M rows)

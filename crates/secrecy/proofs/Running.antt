@@ -1,5 +1,6 @@
 -- Runs of two boards that are alike.
-use Rattle.std.proofs.Common.{◌≡◌, ℕ, zero, suc, ◌-◌, ◌<◌, Bool, true, false, ◌⊎◌, sym, refl, ap, ◌∙◌, subst₂, inl, inr, arith}
+use Rattle.std.proofs.Common.{◌≡◌, ℕ, zero, suc, ◌-◌, ◌<◌, ◌⊎◌, sym, ◌∙◌, inl, inr, arith, ⊎_elim}
+use Rattle.std.proofs.lemmas.Bool.{cases_Bool}
 use Rattle.machine.specs.Run.{State, step, Runs, last, more, run_of}
 use Rattle.machine.specs.declared.phase.Ending.{Ending}
 use Rattle.machine.proofs.Runs.{counts}
@@ -21,10 +22,10 @@ module _ {B V W : Type 0} (S : Setting B V W) where
   Later n limit = (u v s t : State B) (e f : Ending) → limit - u.count < n → Near S u v → Runs M limit u s e → Runs M limit v t f → EndAlike s t e f
 
   along_good : (s t : State B) → Good S s → Along S s t → Good S t
-  along_good s t g h = record { listed = h.listed; calls = rw (h.function, h.returns) g.calls; fine = h.fine g.fine }
+  along_good s t g h = grind arith
 
   met_good : (s t : State B) → Good S s → Met S s t → Good S t
-  met_good s t g h = record { listed = h.listed; calls = rw (h.function, h.returns) g.calls; fine = h.fine g.fine }
+  met_good s t g h = grind arith
 
   -- both wait
   waiting : (limit : ℕ) (u v s t : State B) (e f : Ending) → Good S u → Good S v → Parted S u v → Waits S limit u s e → Waits S limit v t f → EndAlike s t e f
@@ -35,13 +36,13 @@ module _ {B V W : Type 0} (S : Setting B V W) where
         how = inr (record {
           left = wu.0.dark;
           right = wv.0.dark;
-          meets = wu.0.meets ∙ (p.meets ∙ sym wv.0.meets);
-          when = wu.0.when ∙ (p.when ∙ sym wv.0.when);
-          returns = wu.0.returns ∙ (p.returns ∙ sym wv.0.returns);
+          meets = cc;
+          when = cc;
+          returns = cc;
           agree = λ q seen. let seen' = rw wu.0.meets at seen in wu.0.keeps q seen' ∙ (p.agree q seen' ∙ sym (wv.0.keeps q (rw p.meets at seen')));
         });
       } in
-      (wu.1 ∙ sym wv.1, rw wu.1 near)
+      (cc, rw wu.1 near)
 
   -- both come out, in step
   meeting : (limit : ℕ) (u v s t : State B) (e f : Ending) → Good S u → Good S v → Parted S u v → (a : Arrives S limit u s e) (b : Arrives S limit v t f) → Near S a.0 b.0
@@ -50,9 +51,9 @@ module _ {B V W : Type 0} (S : Setting B V W) where
         left = met_good u a.0 gu a.1;
         right = met_good v b.0 gv b.1;
         how = inl (record {
-          at = a.1.there ∙ (p.meets ∙ sym b.1.there);
-          returns = a.1.returns ∙ (p.returns ∙ sym b.1.returns);
-          count = a.1.when ∙ (p.when ∙ sym b.1.when);
+          at = cc;
+          returns = cc;
+          count = cc;
           agree = λ q seen. let seen' = rw a.1.there at seen in a.1.keeps q seen' ∙ (p.agree q seen' ∙ sym (b.1.keeps q (rw p.meets at seen')));
         });
       }
@@ -61,8 +62,8 @@ module _ {B V W : Type 0} (S : Setting B V W) where
   apart : (n limit : ℕ) → Later n limit → (u v s t : State B) (e f : Ending) → limit - u.count < suc n → Good S u → Good S v → Parted S u v →
       Waits S limit u s e ⊎ Arrives S limit u s e → Waits S limit v t f ⊎ Arrives S limit v t f → EndAlike s t e f
   apart n limit later u v s t e f h gu gv p (inl a) (inl b) = waiting limit u v s t e f gu gv p a b
-  apart n limit later u v s t e f h gu gv p (inl a) (inr b) = absurd (omega (arith, a.2, b.2, b.1.when, p.when))
-  apart n limit later u v s t e f h gu gv p (inr a) (inl b) = absurd (omega (arith, b.2, a.2, a.1.when, p.when))
+  apart n limit later u v s t e f h gu gv p (inl a) (inr b) = absurd (omega (arith, b.1.when))
+  apart n limit later u v s t e f h gu gv p (inr a) (inl b) = absurd (omega (arith, a.1.when))
   apart n limit later u v s t e f h gu gv p (inr a) (inr b) =
       let i = dark_inside S u.at gu.listed p.left in
       later a.0 b.0 s t e f (omega (arith, a.1.when, a.2)) (meeting limit u v s t e f gu gv p a b) a.3 b.3
@@ -74,37 +75,31 @@ module _ {B V W : Type 0} (S : Setting B V W) where
 
   -- boards in step at a dark word are parted already
   parts : (u v : State B) → Good S u → InStep S u.at u v → Dark S u.at → Parted S u v
-  parts u v g i dark =
-      record {
-        left = dark;
-        right = rw i.at at dark;
-        meets = ap R.meets i.at;
-        when = rw (i.at, i.count);
-        returns = i.returns;
-        agree = λ p seen. i.agree p (early S u.at g.listed dark p seen).1;
-      }
+  parts u v g i dark = grind (arith, early S u.at g.listed dark)
 
   together : (n limit : ℕ) → Later n limit → (u v s t : State B) (e f : Ending) → limit - u.count < suc n → Together S limit u.count (step M limit u) (step M limit v) →
       Runs M limit u s e → Runs M limit v t f → EndAlike s t e f
-  together n limit later u v s t e f h k (last _ _ _ p) (last _ _ _ q) = subst₂ (Together S limit u.count) p q k
-  together n limit later u v s t e f h k (last _ _ _ p) (more _ v' _ _ q r) = absurd (subst₂ (Together S limit u.count) p q k)
-  together n limit later u v s t e f h k (more _ u' _ _ p r) (last _ _ _ q) = absurd (subst₂ (Together S limit u.count) p q k)
+  together n limit later u v s t e f h k (last _ _ _ p) (last _ _ _ q) = rw (p, q) at k
+  together n limit later u v s t e f h k (last _ _ _ p) (more _ v' _ _ q r) = absurd (rw (p, q) at k)
+  together n limit later u v s t e f h k (more _ u' _ _ p r) (last _ _ _ q) = absurd (rw (p, q) at k)
   together n limit later u v s t e f h k (more _ u' _ _ p r) (more _ v' _ _ q r') =
-      let k' = subst₂ (Together S limit u.count) p q k in later u' v' s t e f (omega (arith, k'.0, k'.1)) k'.2 r r'
+      let k' = rw (p, q) at k in later u' v' s t e f (omega (arith, k'.0, k'.1)) k'.2 r r'
 
   in_step : (n limit : ℕ) → Later n limit → (u v s t : State B) (e f : Ending) → limit - u.count < suc n → Good S u → Good S v → InStep S u.at u v →
-      Runs M limit u s e → Runs M limit v t f → (w : Bool) → m.flows (stake m M R u.at) observer ≡ w → EndAlike s t e f
-  in_step n limit later u v s t e f h gu gv i r q true seen = together n limit later u v s t e f h (pair S limit u v gu gv i seen) r q
-  in_step n limit later u v s t e f h gu gv i r q false dark = parted n limit later u v s t e f h gu gv (parts u v gu i dark) r q
-
-  nears : (n limit : ℕ) → Later n limit → (u v s t : State B) (e f : Ending) → limit - u.count < suc n → Good S u → Good S v →
-      Runs M limit u s e → Runs M limit v t f → InStep S u.at u v ⊎ Parted S u v → EndAlike s t e f
-  nears n limit later u v s t e f h gu gv r q (inl i) = in_step n limit later u v s t e f h gu gv i r q _ refl
-  nears n limit later u v s t e f h gu gv r q (inr p) = parted n limit later u v s t e f h gu gv p r q
+      Runs M limit u s e → Runs M limit v t f → EndAlike s t e f
+  in_step n limit later u v s t e f h gu gv i r q =
+      ⊎_elim
+      (λ seen. together n limit later u v s t e f h (pair S limit u v gu gv i seen) r q)
+      (λ dark. parted n limit later u v s t e f h gu gv (parts u v gu i dark) r q)
+      (cases_Bool (m.flows (stake m M R u.at) observer))
 
   both : (n limit : ℕ) → Later n limit
   both zero limit u v s t e f h near r q = absurd (omega arith)
-  both (suc n) limit u v s t e f h near r q = nears n limit (both n limit) u v s t e f h near.left near.right r q near.how
+  both (suc n) limit u v s t e f h near r q =
+      ⊎_elim
+      (λ i. in_step n limit (both n limit) u v s t e f h near.left near.right i r q)
+      (λ p. parted n limit (both n limit) u v s t e f h near.left near.right p r q)
+      near.how
 
   -- runs of boards that are alike, with one limit, end alike
   pub both_run : (limit : ℕ) (u v : State B) → Near S u v → EndAlike (run_of M limit u).state (run_of M limit v).state (run_of M limit u).ending (run_of M limit v).ending

@@ -1,9 +1,7 @@
 -- One board on a dark way to its join address.
-use Rattle.std.proofs.Common.{◌≡◌, ℕ, ◌+◌, ◌<◌, ◌≤◌, Bool, true, false, cond, ltb, ◌⊎◌, List, refl, ◌∙◌, subst, inl, inr, ⊎_elim, arith, ltb-false, ltb-true, lt-ltb}
-use borrow.Author.Tests.{both_ways}
-use Rattle.machine.specs.Machine.{Kind, plain, forks, calls, rets}
-use Rattle.machine.specs.Run.{State, state, Step, moves, stops, landed, step_at, step, Runs, last, more}
-use Rattle.machine.specs.declared.phase.Stop.TheVariants.{Off}
+use Rattle.std.proofs.Common.{◌≡◌, ℕ, ◌+◌, ◌<◌, ◌≤◌, Bool, true, false, ◌⊎◌, List, refl, ◌∙◌, inl, inr, ⊎_elim, arith}
+use Rattle.machine.specs.Machine.{Kind, plain, forks}
+use Rattle.machine.specs.Run.{State, state, Step, moves, stops, landed, paid, step_at, step, Runs, last, more}
 use Rattle.machine.specs.declared.phase.Ending.{Ending}
 use Rattle.machine.specs.declared.phase.Ending.TheVariants as ending
 use Rattle.secrecy.specs.Accepted.{Edge, Leaves, Stays, WordRule}
@@ -61,23 +59,14 @@ module _ {B V W : Type 0} (S : Setting B V W) where
         { listed = edge.listed; dark = stays_dark S a b c dark h; function = edge.function; returns = refl; meets = h.same; when = omega (arith, h.less); keeps = kept; fine = sound.fine_effect a x }))
         (edge.timed (dark_inside S a l dark))
 
-    fits : c ≤ R.remaining a
-    fits = ⊎_elim (λ (h : Leaves R a b c). omega (arith, h.all)) (λ (h : Stays m M R a b c). omega (arith, h.less)) (edge.timed (dark_inside S a l dark))
-
-    lands : (w : Bool) → w ≡ true → n + c ≤ limit → After limit here (cond w (moves there) (stops (state a rs (n + c) (M.effect a x)) (ending.Stopped Off (n + c))))
-    lands true e le = goes_on le
-    lands false e le = absurd (both_ways _ refl e)
-
-    pays : (w : Bool) → ltb limit (n + c) ≡ w → After limit here (cond w (stops here (ending.Spent limit)) (landed M.size a b rs (n + c) (M.effect a x)))
-    pays true e = let h = ltb-true _ _ e in let f = fits in (refl, refl, omega arith)
-    pays false e = lands (ltb b M.size) (lt-ltb _ _ edge.listed) (ltb-false _ _ e)
+    pays : After limit here (paid limit c a rs n x (landed M.size a b rs (n + c) (M.effect a x)))
+    pays = grind (arith, goes_on, edge.timed (dark_inside S a l dark))
 
   after_by : (limit : ℕ) (k : Kind) (d : Bool) (a : ℕ) (rs : List ℕ) (n : ℕ) (x : B) → WordRule m M R a k → a < M.size → Dark S a → After limit (state a rs n x) (step_at M limit k d a rs n x)
-  after_by limit (plain b c) d a rs n x rule l dark = pays limit a b c rs n x l dark rule _ refl
-  after_by limit (forks qs b c b' c') true a rs n x rule l dark = pays limit a b' c' rs n x l dark rule.1 _ refl
-  after_by limit (forks qs b c b' c') false a rs n x rule l dark = pays limit a b c rs n x l dark rule.0 _ refl
-  after_by limit (calls t c) d a rs n x rule l dark = let h = dark_inside S a l dark in absurd (omega (arith, rule.outside))
-  after_by limit (rets c) d a rs n x rule l dark = let h = dark_inside S a l dark in absurd (omega (arith, rule.outside))
+  after_by limit (plain b c) d a rs n x rule l dark = pays limit a b c rs n x l dark rule
+  after_by limit (forks qs b c b' c') true a rs n x rule l dark = pays limit a b' c' rs n x l dark rule.1
+  after_by limit (forks qs b c b' c') false a rs n x rule l dark = pays limit a b c rs n x l dark rule.0
+  after_by limit k d a rs n x rule l dark = let h = dark_inside S a l dark in grind arith
 
   after : (limit : ℕ) (s : State B) → s.at < M.size → Dark S s.at → After limit s (step M limit s)
   after limit s l dark = after_by limit (M.kind s.at) (M.decides s.at s.body) s.at s.returns s.count s.body (rules.words s.at l) l dark
@@ -89,35 +78,15 @@ module _ {B V W : Type 0} (S : Setting B V W) where
   abbrev pub Arrives : ℕ → State B → State B → Ending → Type 0
   Arrives limit s t e = (u : State B) × Met s u × (u.count ≤ limit) × Runs M limit u t e
 
-  waits_here : (limit : ℕ) (s t : State B) (e : Ending) → s.at < M.size → Dark S s.at → After limit s (stops t e) → Waits limit s t e
-  waits_here limit s t e l dark h =
-      (record { listed = rw h.0 l; dark = rw h.0 dark; function = rw h.0 refl; returns = rw h.0 refl; meets = rw h.0 refl; when = rw h.0 refl; keeps = λ p seen. rw h.0 refl; fine = λ f. rw h.0 f }, h.1, h.2)
-
-  waits_on : (limit : ℕ) (s u t : State B) (e : Ending) → Along s u → Waits limit u t e → Waits limit s t e
-  waits_on limit s u t e g h = (
-    record {
-      listed = h.0.listed;
-      dark = h.0.dark;
-      function = h.0.function ∙ g.function;
-      returns = h.0.returns ∙ g.returns;
-      meets = h.0.meets ∙ g.meets;
-      when = h.0.when ∙ g.when;
-      keeps = λ p seen. h.0.keeps p (rw g.meets seen) ∙ g.keeps p seen;
-      fine = λ f. h.0.fine (g.fine f);
-    },
-    h.1,
-    omega (arith, h.2, g.when),
-  )
-
   arrives_on : (limit : ℕ) (s u t : State B) (e : Ending) → Along s u → Arrives limit u t e → Arrives limit s t e
   arrives_on limit s u t e g h = (
     h.0,
     record {
       listed = h.1.listed;
-      there = h.1.there ∙ g.meets;
-      function = h.1.function ∙ g.function;
-      returns = h.1.returns ∙ g.returns;
-      when = h.1.when ∙ g.when;
+      there = cc;
+      function = cc;
+      returns = cc;
+      when = cc;
       keeps = λ p seen. h.1.keeps p (rw g.meets seen) ∙ g.keeps p seen;
       fine = λ f. h.1.fine (g.fine f);
     },
@@ -125,15 +94,11 @@ module _ {B V W : Type 0} (S : Setting B V W) where
     h.3,
   )
 
-  further : (limit : ℕ) (s u t : State B) (e : Ending) → Along s u → Waits limit u t e ⊎ Arrives limit u t e → Waits limit s t e ⊎ Arrives limit s t e
-  further limit s u t e g (inl h) = inl (waits_on limit s u t e g h)
-  further limit s u t e g (inr h) = inr (arrives_on limit s u t e g h)
-
   onward : (limit : ℕ) (s u t : State B) (e : Ending) → Runs M limit u t e → (u.at < M.size → Dark S u.at → Waits limit u t e ⊎ Arrives limit u t e) →
       Along s u ⊎ (Met s u × (u.count ≤ limit)) → Waits limit s t e ⊎ Arrives limit s t e
-  onward limit s u t e r later (inl g) = further limit s u t e g (later g.listed g.dark)
+  onward limit s u t e r later (inl g) = ⊎_elim (λ (h : Waits limit u t e). inl (grind arith)) (λ h. inr (arrives_on limit s u t e g h)) (later g.listed g.dark)
   onward limit s u t e r later (inr g) = inr (u, g.0, g.1, r)
 
   pub solo : (limit : ℕ) (s t : State B) (e : Ending) → Runs M limit s t e → s.at < M.size → Dark S s.at → Waits limit s t e ⊎ Arrives limit s t e
-  solo limit s t e (last _ _ _ p) l dark = inl (waits_here limit s t e l dark (subst (After limit s) p (after limit s l dark)))
-  solo limit s t e (more _ u _ _ p r) l dark = onward limit s u t e r (solo limit u t e r) (subst (After limit s) p (after limit s l dark))
+  solo limit s t e (last _ _ _ p) l dark = let h = rw p at (after limit s l dark) in grind arith
+  solo limit s t e (more _ u _ _ p r) l dark = onward limit s u t e r (solo limit u t e r) (rw p at (after limit s l dark))

@@ -1,11 +1,10 @@
 -- What acceptance says of rows alone, and of one word on two bodies.
-use Rattle.std.proofs.Common.{◌≡◌, ℕ, zero, suc, ◌<◌, ◌≤◌, Bool, true, false, cond, List, [], ◌∷◌, sym, refl, ◌∙◌, ⊎_elim, arith}
-use borrow.Author.Tests.{both_ways}
+use Rattle.std.proofs.Common.{◌≡◌, ℕ, zero, suc, ◌<◌, ◌≤◌, true, false, List, [], ◌∷◌, ⊎_elim, arith}
 use Rattle.std.proofs.lemmas.Bool.{cases_lt}
-use Rattle.machine.specs.Machine.{Kind, plain, forks, calls, rets, Positive, AgreeOn}
+use Rattle.machine.specs.Machine.{Kind, plain, forks, Positive, AgreeOn}
 use Rattle.secrecy.specs.Rows.{places}
 use Rattle.secrecy.specs.Flow.{joined, join_of_all, deciding_of, deciding, stake, level_after}
-use Rattle.secrecy.specs.Accepted.{Edge, Leaves, Stays, WordRule, Flows}
+use Rattle.secrecy.specs.Accepted.{Edge, Stays, WordRule, Flows}
 use Rattle.secrecy.proofs.Setting.{Setting, Seen, Agree, Dark}
 
 module _ {B V W : Type 0} (S : Setting B V W) where
@@ -28,91 +27,62 @@ module _ {B V W : Type 0} (S : Setting B V W) where
   all_held a (q ∷ (r ∷ rs)) = laws.join_held _ _ (levels a q) (all_held a (r ∷ rs))
 
   deciding_held : (a : ℕ) (k : Kind) → m.held (deciding_of m (R.level a) k) ≡ true
-  deciding_held a (plain b c) = laws.zero_held
-  deciding_held a (forks qs b c b' c') = all_held a qs
-  deciding_held a (calls t c) = laws.zero_held
-  deciding_held a (rets c) = laws.zero_held
+  deciding_held a k = grind (arith, all_held a, laws.zero_held)
 
   -- who sees a join sees each of its parts
-  left_seen : (x y : ℕ) → m.held x ≡ true → m.held y ≡ true → Seen S (m.join x y) → Seen S x
-  left_seen x y h k seen = down x (m.join x y) (laws.join_left x y h k) seen
-
-  right_seen : (x y : ℕ) → m.held x ≡ true → m.held y ≡ true → Seen S (m.join x y) → Seen S y
-  right_seen x y h k seen = down y (m.join x y) (laws.join_right x y h k) seen
+  parts_seen : (x y : ℕ) → m.held x ≡ true → m.held y ≡ true → Seen S (m.join x y) → Seen S x × Seen S y
+  parts_seen x y h k seen = (down x (m.join x y) (laws.join_left x y h k) seen, down y (m.join x y) (laws.join_right x y h k) seen)
 
   -- who sees a join over places sees each place
   sources_agree : (a : ℕ) (x y : B) → Agree S a x y → (qs : List ℕ) → Seen S (joined m (R.region a) (R.level a) qs) → AgreeOn M qs x y
   sources_agree a x y agree [] seen = tt
-  sources_agree a x y agree (q ∷ qs) seen =
-      (agree q (left_seen _ _ (levels a q) (joined_held a qs) seen), sources_agree a x y agree qs (right_seen _ _ (levels a q) (joined_held a qs) seen))
+  sources_agree a x y agree (q ∷ qs) seen = let p = parts_seen _ _ (levels a q) (joined_held a qs) seen in (agree q p.0, sources_agree a x y agree qs p.1)
 
   pub deciders_agree : (a : ℕ) (x y : B) → Agree S a x y → (qs : List ℕ) → Seen S (join_of_all m (R.level a) qs) → AgreeOn M qs x y
   deciders_agree a x y agree [] seen = tt
   deciders_agree a x y agree (q ∷ []) seen = (agree q seen, tt)
   deciders_agree a x y agree (q ∷ (r ∷ rs)) seen =
-      (agree q (left_seen _ _ (levels a q) (all_held a (r ∷ rs)) seen), deciders_agree a x y agree (r ∷ rs) (right_seen _ _ (levels a q) (all_held a (r ∷ rs)) seen))
+      let p = parts_seen _ _ (levels a q) (all_held a (r ∷ rs)) seen in (agree q p.0, deciders_agree a x y agree (r ∷ rs) p.1)
 
   -- and the region level
   region_seen : (a : ℕ) (qs : List ℕ) → Seen S (joined m (R.region a) (R.level a) qs) → Seen S (R.region a)
   region_seen a [] seen = seen
-  region_seen a (q ∷ qs) seen = region_seen a qs (right_seen _ _ (levels a q) (joined_held a qs) seen)
+  region_seen a (q ∷ qs) seen = region_seen a qs (parts_seen _ _ (levels a q) (joined_held a qs) seen).1
 
   pub stake_region : (a : ℕ) → Seen S (stake m M R a) → Seen S (R.region a)
-  stake_region a seen = left_seen _ _ (regions a) (deciding_held a (M.kind a)) seen
+  stake_region a seen = (parts_seen _ _ (regions a) (deciding_held a (M.kind a)) seen).0
 
   pub stake_deciding : (a : ℕ) → Seen S (stake m M R a) → Seen S (deciding m M R a)
-  stake_deciding a seen = right_seen _ _ (regions a) (deciding_held a (M.kind a)) seen
+  stake_deciding a seen = (parts_seen _ _ (regions a) (deciding_held a (M.kind a)) seen).1
 
   -- levels flow at every number, place or not
   flow : (a b : ℕ) → Flows m M R a b → (p : ℕ) → m.flows (level_after m M R a p) (R.level b p) ≡ true
   flow a b flows p = ⊎_elim (flows p) (beyond a b p) (cases_lt p places)
 
-  after_by : (a p : ℕ) (x y : B) → M.fine x ≡ true → M.fine y ≡ true → Agree S a x y → (w : Bool) → M.writes a p ≡ w →
-      Seen S (cond w (joined m (R.region a) (R.level a) (M.sources a p)) (R.level a p)) → M.holds (M.effect a x) p ≡ M.holds (M.effect a y) p
-  after_by a p x y fx fy agree true e seen = sound.local a p x y fx fy e (sources_agree a x y agree (M.sources a p) seen)
-  after_by a p x y fx fy agree false e seen = sound.kept a p x e ∙ (agree p seen ∙ sym (sound.kept a p y e))
-
   -- one word on two bodies that agree: they agree by each row that its levels flow to
   pub arrive : (a b : ℕ) (x y : B) → M.fine x ≡ true → M.fine y ≡ true → Agree S a x y → Flows m M R a b → Agree S b (M.effect a x) (M.effect a y)
-  arrive a b x y fx fy agree flows p seen = after_by a p x y fx fy agree (M.writes a p) refl (down _ _ (flow a b flows p) seen)
-
-  -- a word is not dark where neither its region nor its decision is hidden
-  lit : (a : ℕ) → Dark S a → Seen S (R.region a) → Seen S (deciding m M R a) → ⊥
-  lit a dark r d = both_ways _ dark (laws.join_least _ _ _ r d)
+  arrive a b x y fx fy agree flows p seen =
+      let before = down _ _ (flow a b flows p) seen in
+      grind (arith, sound.local a p x y fx fy, sources_agree a x y agree (M.sources a p), sound.kept a p x, sound.kept a p y, agree p)
 
   -- a word that writes decides nothing
-  writer : (a p : ℕ) (k : Kind) → M.kind a ≡ k → M.writes a p ≡ true → Seen S (deciding m M R a)
-  writer a p (plain b c) i w = rw i none_seen
-  writer a p (forks qs b c b' c') i w = absurd (both_ways _ (sound.still a qs b c b' c' i p) w)
-  writer a p (calls t c) i w = rw i none_seen
-  writer a p (rets c) i w = rw i none_seen
+  writer : (a p : ℕ) → M.writes a p ≡ true → Seen S (deciding m M R a)
+  writer a p w = grind (arith, sound.still a, none_seen)
 
   abbrev Untouched : ℕ → ℕ → Type 0
   Untouched a p = (M.writes a p ≡ false) × Seen S (R.level a p)
 
   -- a dark word writes no place that is seen after it
-  quiet_by : (a p : ℕ) (w : Bool) → M.writes a p ≡ w → Dark S a → Seen S (cond w (joined m (R.region a) (R.level a) (M.sources a p)) (R.level a p)) → Untouched a p
-  quiet_by a p false e dark seen = (e, seen)
-  quiet_by a p true e dark seen = absurd (lit a dark (region_seen a (M.sources a p) seen) (writer a p (M.kind a) refl e))
-
   quiet : (a b p : ℕ) → Dark S a → Flows m M R a b → Seen S (R.level b p) → Untouched a p
-  quiet a b p dark flows seen = quiet_by a p (M.writes a p) refl dark (down _ _ (flow a b flows p) seen)
+  quiet a b p dark flows seen = let before = down _ _ (flow a b flows p) seen in grind (arith, region_seen a (M.sources a p), writer a p)
 
   -- an edge that stays in a dark region leads to a dark word
   pub stays_dark : (a b c : ℕ) → Dark S a → Stays m M R a b c → Dark S b
-  stays_dark a b c dark t = go _ refl
-    where
-      go : (w : Bool) → m.flows (stake m M R b) observer ≡ w → Dark S b
-      go false e = e
-      go true e = absurd (both_ways _ dark (down _ _ t.region (stake_region b e)))
-
-  dark_by : (a r : ℕ) → a < M.size → R.remaining a ≡ r → Dark S a → 0 < R.remaining a
-  dark_by a (suc r) l e dark = omega arith
-  dark_by a zero l e dark = absurd (lit a dark (rw ((rules.shapes a (omega arith)).outside e).0 none_seen) (rw (rules.plainly a l e) none_seen))
+  stays_dark a b c dark t = grind (arith, stake_region b, down (stake m M R a) (R.region b) t.region)
 
   -- dark words are inside
   pub dark_inside : (a : ℕ) → a < M.size → Dark S a → 0 < R.remaining a
-  dark_inside a l dark = dark_by a _ l refl dark
+  dark_inside a l dark = grind arith
 
   -- what is seen by the row of the join address is seen on the dark way to it, and not written there
   abbrev pub Early : ℕ → Type 0
@@ -121,20 +91,16 @@ module _ {B V W : Type 0} (S : Setting B V W) where
   early_edge : (a b c n : ℕ) → 0 < c → a < M.size → Dark S a → R.remaining a ≤ suc n → Edge m M R a b c →
       (b < M.size → Dark S b → R.remaining b ≤ n → Early b) → Early a
   early_edge a b c n pos l dark le edge later p seen =
-      ⊎_elim
-      (λ (h : Leaves R a b c). quiet a b p dark edge.levels (rw h.there seen))
-      (λ (h : Stays m M R a b c). quiet a b p dark edge.levels (later edge.listed (stays_dark a b c dark h) (omega (arith, h.less)) p (rw h.same seen)).1)
-      (edge.timed (dark_inside a l dark))
+      grind (arith, edge.timed (dark_inside a l dark), quiet a b p dark edge.levels, later edge.listed, stays_dark a b c dark)
 
   early_by : (n a : ℕ) (k : Kind) → WordRule m M R a k → Positive k → a < M.size → Dark S a → R.remaining a ≤ suc n →
       ((b : ℕ) → b < M.size → Dark S b → R.remaining b ≤ n → Early b) → Early a
   early_by n a (plain b c) rule pos l dark le later = early_edge a b c n pos l dark le rule (later b)
   early_by n a (forks qs b c b' c') rule pos l dark le later = early_edge a b c n pos.0 l dark le rule.0 (later b)
-  early_by n a (calls t c) rule pos l dark le later = let h = dark_inside a l dark in absurd (omega (arith, rule.outside))
-  early_by n a (rets c) rule pos l dark le later = let h = dark_inside a l dark in absurd (omega (arith, rule.outside))
+  early_by n a k rule pos l dark le later = let h = dark_inside a l dark in grind arith
 
   early_all : (n a : ℕ) → a < M.size → Dark S a → R.remaining a ≤ n → Early a
-  early_all zero a l dark le = let h = dark_inside a l dark in absurd (omega arith)
+  early_all zero a l dark le = absurd (omega (arith, dark_inside a l dark))
   early_all (suc n) a l dark le = early_by n a (M.kind a) (rules.words a l) (sound.positive a) l dark le (early_all n)
 
   pub early : (a : ℕ) → a < M.size → Dark S a → Early a

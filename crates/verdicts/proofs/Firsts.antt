@@ -1,14 +1,10 @@
 -- Lemmas on checks that follow one another, for the loops and the `?` of the code that makes them.
-use Rattle.std.proofs.Common.{rules, ◌≡◌, ℕ, zero, suc, ◌+◌, ◌<◌, ◌≤◌, Bool, true, List, IsErrAnd, Result, refl, ◌∙◌, ⊎_elim, add-one, arith}
-use Rattle.std.proofs.lemmas.Bool.{cases_lt}
+use Rattle.std.proofs.Common.{rules, ◌≡◌, ℕ, zero, suc, ◌+◌, ◌<◌, ◌≤◌, Bool, true, List, IsErrAnd, Result, refl, arith}
 use Rattle.verdicts.specs.Verdict.{Verdict, Refusal, fine, refused, and_then, rule, first, says}
 use Rattle.verdicts.specs.Laws.{Keeps, BreaksFirst, FirstBrokenStands}
 
 pub and_fine : (v w : Verdict) → and_then v w ≡ fine → (v ≡ fine) × (w ≡ fine)
 and_fine v w e = search rules
-
-pub rule_fine : (t : Bool) (n : ℕ) (vs : List ℕ) → rule t n vs ≡ fine → t ≡ true
-rule_fine t n vs e = search rules
 
 -- the exit of a `?`
 pub says_err : {T E : Type 0} (f : E → Refusal) (r : Result T E) (w : E) → IsErrAnd r (λ y. y ≡ w) → says f r ≡ refused (f w)
@@ -24,7 +20,7 @@ rule_met t n vs e = search rules
 module _ (f : ℕ → Verdict) where
   -- a loop over all n, at its end
   pub first_all : (i n : ℕ) → first f i ≡ fine → n ≤ i → i ≤ n → first f n ≡ fine
-  first_all i n e h k = let q : n ≡ i = omega arith in rw q e
+  first_all i n e h k = grind arith
 
   pub first_none : first f 0 ≡ fine
   unfolding first
@@ -32,39 +28,28 @@ module _ (f : ℕ → Verdict) where
 
   pub first_more : (i : ℕ) → first f i ≡ fine → f i ≡ fine → first f (i + 1) ≡ fine
   unfolding first
-  first_more i before here = rw (add-one, before, here)
+  first_more i before here = grind arith
 
   pub first_stop : (i n : ℕ) (r : Refusal) → first f i ≡ fine → f i ≡ refused r → i < n → first f n ≡ refused r
   unfolding first
   first_stop i zero r before here lt = absurd (omega arith)
-  first_stop i (suc n) r before here lt =
-      ⊎_elim (λ l. rw (first_stop i n r before here l)) (λ l. let e : n ≡ i = omega arith in rw (e, before, here)) (cases_lt i n)
+  first_stop i (suc n) r before here lt = grind (arith, first_stop i n r before here)
 
   pub first_each : (n : ℕ) → first f n ≡ fine → Keeps f n
   unfolding first
   first_each zero e k lt = absurd (omega arith)
-  first_each (suc n) e k lt =
-      let p = and_fine (first f n) (f n) e in
-      ⊎_elim (λ l. first_each n p.0 k l) (λ l. let q : k ≡ n = omega arith in rw q p.1) (cases_lt k n)
+  first_each (suc n) e k lt = grind (arith, first_each n)
 
   pub each_first : (n : ℕ) → Keeps f n → first f n ≡ fine
   unfolding first
   each_first zero h = refl
-  each_first (suc n) h = then-on (first f n) (f n) fine (each_first n (λ k l. h k (omega arith))) (h n (omega arith))
+  each_first (suc n) h = grind (arith, each_first n, h n)
 
   -- the first n rules come to nothing, or one of them is the first that is broken
-  named_at : (n : ℕ) (v w : Verdict) → first f n ≡ v → f n ≡ w → (r : Refusal) → and_then v w ≡ refused r →
-      ((s : Refusal) → first f n ≡ refused s → BreaksFirst f n s) → BreaksFirst f (suc n) r
-  named_at n fine w e d r h before = (n, (omega arith), (d ∙ h), first_each n e)
-  named_at n (refused s) w e d r h before =
-      let q : s ≡ r = cc in
-      let b = before r (e ∙ h) in
-      (b.0, (omega (arith, b.1)), b.2, b.3)
-
   pub first_named : (n : ℕ) (r : Refusal) → first f n ≡ refused r → BreaksFirst f n r
   unfolding first
-  first_named zero r e = let z : ◌≡◌ {A = ℕ} 0 1 = cc in absurd (omega arith)
-  first_named (suc n) r e = named_at n (first f n) (f n) refl refl r e (first_named n)
+  first_named zero r e = cc
+  first_named (suc n) r e = search (rules, arith, first_each n, first_named n)
 
 pub first_broken_law : FirstBrokenStands
 first_broken_law f n = record { kept = first_each f n; found = each_first f n; named = first_named f n }

@@ -2,17 +2,18 @@ use Rattle.std.proofs.Common.{◌≡◌, ◌<◌, length, drop, sym, ap, ◌∙�
 use Rattle.std.proofs.lemmas.Bool.{false≢true}
 use Rattle.std.proofs.lemmas.List.{nil_from_length}
 use Rattle.text.specs.Bytes.{in_line}
-use Rattle.text.specs.Lines.{after_line}
-use Rattle.text.proofs.Cutting.{line_taken, lines_none}
+use Rattle.text.specs.Lines.{lines_of, after_line}
+use Rattle.text.proofs.Cutting.{line_taken}
 use Rattle.text.proofs.cursors.LinesIterator.next.Goals as goal
 
 pub returns-then-is_empty : goal.returns-then-is_empty
+unfolding lines_of
 returns-then-is_empty c =
     let bs = c.args.self.now.rest.now in
     let none : length bs ≡ 0 = true-eqb _ 0 c.if-is_empty.ensures in
     let empty = nil_from_length bs none in
     record {
-      steps = record { first = (lines_none bs none, lines_none bs none); rest = empty ∙ sym (ap after_line empty); shorter = λ e. absurd (false≢true e) };
+      steps = record { first = (ap lines_of empty, ap lines_of empty); rest = empty ∙ sym (ap after_line empty); shorter = λ e. absurd (false≢true e) };
       goes = record { on = λ h. tt; keeps = tt; rests = λ h. tt };
     }
 
