@@ -165,6 +165,7 @@ fn print_listing(rt: &HostRuntime, listing: Listing<'_>) -> io::Result<()> {
 fn print_word(rt: &HostRuntime, listing: Listing<'_>, at: u16) -> io::Result<()>
     requires { at < length listing.words.now }
 {
+    // An address of the listing has both.
     let (Some(word), Some(instruction)) = (listing.word(at), listing.instruction(at)) else {
         unreachable()
     };

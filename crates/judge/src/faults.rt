@@ -12,7 +12,7 @@ pub enum RowFault {
     /// There are not as many numbers as the rows of all words and the finish row take.
     Count,
     /// No level has the code in this column of this row.
-    // A number, as the refusal carries it: a `Column` would be made only to be taken apart.
+    // A number, as the refusal carries it; who explains the refusal finds the name.
     NotHeld { row: u16, column: u16 },
     /// The row has not the shape of one: its region, its function, or where it begins or ends.
     Shape { row: u16 },

@@ -72,6 +72,7 @@ fn words(heap: Global, shape: Shape, len: u16) -> Result<Vec<u16>, AllocError> {
 /// Its rows: nothing is secret.
 fn rows(heap: Global, shape: Shape, len: u16) -> Result<Vec<u16>, AllocError> {
     let mut rows = Vec::new(heap);
+    // Over rows: a closure could not hand on that memory is wanting.
     for row in 0..=len {
         let mut numbers = [0; COLUMNS];
         numbers[usize::from(FUNCTION)] = function(shape, row, len);

@@ -56,6 +56,7 @@ fn named_column(name: &[u8]) -> Option<Column>
 fn column_of(name: &[u8]) -> Result<Column, Malformed>
     ensures { result ≡ column_by_name name.now }
 {
+    // First by a name of its own; `map_or_else` would put what follows into a closure.
     if let Some(column) = named_column(name) {
         return Ok(column);
     }

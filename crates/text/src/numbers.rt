@@ -91,6 +91,7 @@ fn weigh(digits: &[u8], base: Base, most: u32) -> Result<u32, NumberFault>
 fn appended(number: u32, base: Base, digit: u8) -> u64
     ensures { result ≡ number * radix base + digit_value digit }
 {
+    // 36 for what is no digit in any base, as the definition has it.
     let value = char::from(digit).to_digit(36).unwrap_or(36);
     u64::from(number) * u64::from(base.radix()) + u64::from(value)
 }

@@ -20,6 +20,7 @@ use words::instruction::Instruction;
 use words::listing::Listing;
 
 /// The instruction of the word at an address; past the last word it is that of 0.
+// Two lines that `RoutineView` of row_layout has too, which stands above the rows: a board has none.
 fn instruction_at(words: &[u16], at: usize) -> Instruction
     ensures { result ≡ instruction_of words.now at }
 {

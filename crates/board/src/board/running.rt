@@ -154,6 +154,7 @@ impl Board<'_, '_> {
     }
 
     /// Goes on up to a limit of cycles, unless the board has ended or is stopped.
+    // Apart from `run`, which adds what is true of every machine: that the count is a sum.
     fn carry_on(&mut self, limit: u32) -> Ending
         ensures state { after self.new (ends result) ≡ does (avr (words_of self.old)) (run_call limit) (board_of self.old) }
         ensures same { Lent self.old self.new }
