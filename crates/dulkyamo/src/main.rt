@@ -1,7 +1,8 @@
 //! Carries out routine files and prints what it carried out, an answer a line.
 //!
 //! It stands on the libraries for everything that decides: `routine` reads, `judge` judges, `couples` works the boards, `explanations`
-//! explains. What is printed is tested by the run in the gate, and not proved: each function is proved to be safe and to end.
+//! explains. What is printed is tested by the run in the gate, and not proved: each function is proved to be safe and to end, and the
+//! exit status to be that of what was carried out.
 #![tactic(auto)]
 
 mod calls;
@@ -10,9 +11,11 @@ mod naming;
 mod showing;
 mod working;
 
-ghost use Rattle.std.specs.Prelude.{◌≡◌, ◌<◌, length};
+ghost use Rattle.std.specs.Prelude.{◌≡◌, ◌<◌, IfOk, length};
+ghost use Rattle.std.specs.Process.{exit_status};
 ghost use Rattle.verdicts.specs.Verdict.{refused};
 ghost use Rattle.words.specs.Legal.{legal_of, word_refusal};
+ghost use Rattle.dulkyamo.specs.Statuses.{Carried, status_of};
 
 use crate::showing::{Cycles, Next};
 use crate::working::Job;
@@ -43,13 +46,21 @@ Status 0: each file was carried out. Status 1: some file could not be read or is
 const INPUT: &str = "<stdin>";
 
 fn main(rt: HostRuntime) -> ExitCode {
-    match run(&rt) {
-        Ok(true) => ExitCode::SUCCESS,
-        Ok(false) => ExitCode::FAILURE,
-        Err(error) => {
-            let _ = eprintln!(rt; "dulkyamo: {error}");
-            ExitCode::FAILURE
-        }
+    let done = run(&rt);
+    if let Err(error) = &done {
+        let _ = eprintln!(rt; "dulkyamo: {error}");
+    }
+    status(&done)
+}
+
+/// The exit status of what was done.
+fn status(done: &io::Result<bool>) -> ExitCode
+    ensures { exit_status result ≡ status_of done.now }
+{
+    if matches!(done, Ok(true)) {
+        ExitCode::SUCCESS
+    } else {
+        ExitCode::FAILURE
     }
 }
 
@@ -95,7 +106,9 @@ fn unreadable(rt: &HostRuntime, name: &str, error: io::Error) -> io::Result<bool
 }
 
 /// Carries out a file, or says what is wrong with it and where.
-fn carry_out(rt: &HostRuntime, name: &str, file: &[u8]) -> io::Result<bool> {
+fn carry_out(rt: &HostRuntime, name: &str, file: &[u8]) -> io::Result<bool>
+    ensures { IfOk result (λ done. Carried done file.now) }
+{
     match routine::read(rt.alloc(), file) {
         Ok(routine) => {
             print_routine(rt, name, &routine)?;

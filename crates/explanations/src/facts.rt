@@ -1,8 +1,9 @@
 //! What the words and rows of a refusal say.
-ghost use Rattle.std.specs.Prelude.{◌≡◌};
+ghost use Rattle.std.specs.Prelude.{◌≡◌, ◌||◌};
 ghost use Rattle.avr.specs.Chip.{instruction_of};
 ghost use Rattle.row_layout.specs.Views.{seen};
-ghost use Rattle.explanations.specs.Views.{cycles_to};
+ghost use Rattle.secrecy.specs.Rules.{leaves, stays};
+ghost use Rattle.explanations.specs.Views.{cycles_to, due_cycles, due_join};
 
 use crate::refusal::Refusal;
 use words::route::Route;
@@ -16,14 +17,43 @@ impl Refusal<'_> {
         self.routine.meets(row)
     }
 
-    /// The cycles of the way from a word to a next address.
+    /// Whether a way from inside a region ends the region in time, or stays in it with so much less remaining.
+    fn is_timed(&self, at: u16, next: u32, cycles: u8) -> bool
+        ensures { result ≡ (leaves (seen self.now.routine) at next cycles || stays (seen self.now.routine) at next cycles) }
+    {
+        self.routine.leaves(at, next, cycles) || self.routine.stays(at, next, cycles)
+    }
+
+    /// The cycles of the way from a word to a next address. Where both ways of a fork lead there, the first that is not in time is the
+    /// one that was refused.
     pub(crate) fn cycles(&self, at: u16, next: u32) -> u8
-        ensures { result ≡ cycles_to at next (instruction_of self.now.routine.words.now at) }
+        ensures { result ≡ cycles_to (seen self.now.routine) at next (instruction_of self.now.routine.words.now at) }
     {
         let instruction = self.routine.instruction(at);
+        let straight = instruction.cycles(false);
         match instruction.route(at) {
-            Route::Fork(on, aside) => instruction.cycles(aside == next && on != next),
-            Route::To(_) | Route::Call(_) | Route::Return => instruction.cycles(false),
+            Route::Fork(on, aside) => instruction.cycles(
+                aside == next && (on != next || self.is_timed(at, next, straight)),
+            ),
+            Route::To(_) | Route::Call(_) | Route::Return => straight,
         }
+    }
+
+    /// The join address that the row of a word would have to say for its way to a next address to be in time.
+    pub(crate) fn due_join(&self, next: u32) -> u32
+        ensures { result ≡ due_join (seen self.now.routine) next }
+    {
+        if self.routine.remaining(next) == 0 {
+            next
+        } else {
+            u32::from(self.join(next))
+        }
+    }
+
+    /// The remaining cycles that the row of a word would have to say for its way to a next address to be in time.
+    pub(crate) fn due_cycles(&self, at: u16, next: u32) -> u32
+        ensures { result ≡ due_cycles (seen self.now.routine) at next (instruction_of self.now.routine.words.now at) }
+    {
+        u32::from(self.cycles(at, next)) + u32::from(self.routine.remaining(next))
     }
 }

@@ -236,27 +236,20 @@ impl Refusal<'_> {
     ) -> fmt::Result {
         let word = Assembly(self.routine.instruction(at));
         let cycles = self.cycles(at, next);
+        let label = self.label(next);
+        let left = self.routine.remaining(next);
+        let due_join = self.due_join(next);
+        let due_cycles = self.due_cycles(at, next);
         let join = self.join(u32::from(at));
         let remaining = self.routine.remaining(u32::from(at));
-        let label = self.label(next);
         write!(
             f,
-            " at {at}, next {next}: {word} takes {cycles} of the cycles that remain on its way to {next}, and row {at} says join={join} remaining={remaining}; "
+            " at {at}, next {next}: {word} takes {cycles} of the cycles that remain on its way to {next}, and {label} says remaining={left}; "
         )?;
-        if self.routine.remaining(next) == 0 {
-            write!(
-                f,
-                "{label} is outside, so row {at} would have to say join={next} remaining={cycles}: make all ways to the join address equally long"
-            )
-        } else {
-            let left = remaining.saturating_sub(u16::from(cycles));
-            let next_join = self.join(next);
-            let next_remaining = self.routine.remaining(next);
-            write!(
-                f,
-                "{label} would have to say join={join} remaining={left}, and says join={next_join} remaining={next_remaining}: make all ways to the join address equally long"
-            )
-        }
+        write!(
+            f,
+            "so row {at} would have to say join={due_join} remaining={due_cycles}, and says join={join} remaining={remaining}: make all ways to the join address equally long"
+        )
     }
 
     /// A level that does not flow on.

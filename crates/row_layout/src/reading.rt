@@ -2,6 +2,7 @@
 ghost use Rattle.std.specs.Prelude.{◌≡◌, length};
 ghost use Rattle.avr.specs.Chip.{instruction_of};
 ghost use Rattle.secrecy.specs.Rows.{cell as cell_of};
+ghost use Rattle.secrecy.specs.Rules.{leaves as leaves_of, stays as stays_of};
 ghost use Rattle.row_layout.specs.Views.{seen};
 
 use crate::layout::{COLUMNS, FUNCTION, JOIN, PLACES, REGION, REMAINING};
@@ -83,5 +84,25 @@ impl RoutineView<'_> {
         ensures { result ≡ (seen self.now).function row }
     {
         self.cell(row, FUNCTION)
+    }
+
+    /// Whether a way of so many cycles ends the region that it comes from, just in time.
+    pub fn leaves(&self, at: u16, next: u32, cycles: u8) -> bool
+        ensures { result ≡ leaves_of (seen self.now) at next cycles }
+    {
+        let row = u32::from(at);
+        next == u32::from(self.meets(row))
+            && (self.remaining(next) == 0 && self.remaining(row) == u16::from(cycles))
+    }
+
+    /// Whether a way of so many cycles stays in the region that it comes from, with so much less remaining.
+    pub fn stays(&self, at: u16, next: u32, cycles: u8) -> bool
+        ensures { result ≡ stays_of (seen self.now) at next cycles }
+    {
+        let row = u32::from(at);
+        self.meets(next) == self.meets(row)
+            && (self.remaining(next) > 0
+                && u32::from(self.remaining(row))
+                    == u32::from(cycles) + u32::from(self.remaining(next)))
     }
 }

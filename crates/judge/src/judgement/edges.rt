@@ -13,35 +13,14 @@ use levels::order::Order;
 use row_layout::{PLACES, REGION};
 
 impl<O: Order> Departure<'_, O> {
-    /// Whether an edge ends the region that it comes from, just in time.
-    fn leaves(&self, next: u32, cycles: u8) -> bool
-        ensures { result ≡ leaves_of (seen self.now.judgement.now.routine) self.now.at next cycles }
-    {
-        let judgement = self.judgement;
-        let at = u32::from(self.at);
-        next == u32::from(judgement.routine.meets(at))
-            && (judgement.is_outside(next) && judgement.routine.remaining(at) == u16::from(cycles))
-    }
-
-    /// Whether an edge stays in the region that it comes from, with so much less remaining.
-    fn stays(&self, next: u32, cycles: u8) -> bool
-        ensures { result ≡ stays_of (seen self.now.judgement.now.routine) self.now.at next cycles }
-    {
-        let judgement = self.judgement;
-        let at = u32::from(self.at);
-        judgement.routine.meets(next) == judgement.routine.meets(at)
-            && (judgement.is_inside(next)
-                && u32::from(judgement.routine.remaining(at))
-                    == u32::from(cycles) + u32::from(judgement.routine.remaining(next)))
-    }
-
     /// Whether an edge, if it comes from inside a region, ends the region in time or stays in it.
     fn is_timed(&self, next: u32, cycles: u8) -> bool
         ensures { result ≡ (outside (seen self.now.judgement.now.routine) self.now.at || (leaves_of (seen self.now.judgement.now.routine) self.now.at next cycles || stays_of (seen self.now.judgement.now.routine) self.now.at next cycles)) }
     {
+        let routine = self.judgement.routine;
         self.judgement.is_outside(u32::from(self.at))
-            || self.leaves(next, cycles)
-            || self.stays(next, cycles)
+            || routine.leaves(self.at, next, cycles)
+            || routine.stays(self.at, next, cycles)
     }
 
     /// Whether the level of each place after a word flows to its level in the next row.
