@@ -27,9 +27,11 @@ pub record Byte : Type 0 where
   pub register : ℕ
   pub value : ℕ
 
+-- register d holds byte v
 abbrev pub holding : ℕ → ℕ → Byte
 holding d v = record { register = d; value = v }
 
+-- a row of the table
 pub data Case : Type 0 where
   -- a word decodes to an instruction, or to none
   decodes : ℕ → Option Instruction → Case
@@ -54,6 +56,7 @@ abbrev pub Hold : List Byte → List ℕ → Type 0
 Hold [] rs = Unit {0}
 Hold (b ∷ bs) rs = (slice_index rs b.register ≡ b.value) × Hold bs rs
 
+-- registers that hold some bytes, and the flags C and Z
 abbrev pub Left : Core → List Byte → Bool → Bool → Type 0
 Left x bs c z = Hold bs x.registers × ((x.carry ≡ c) × (x.zero ≡ z))
 
@@ -66,6 +69,7 @@ Holds (always ws d e) = (v : ℕ) → v < 256 → (does (avr ws) (run 1000) (doe
 Holds (judged ws rows m v) = judgement_of m ws rows ≡ v
 Holds (unlisted ws v) = legal_of ws ≡ v
 
+-- each row of a table holds
 abbrev pub AllHold : List Case → Type 0
 AllHold [] = Unit {0}
 AllHold (c ∷ cs) = Holds c × AllHold cs
@@ -95,6 +99,7 @@ value_cases =
 abbrev pub loop : List ℕ
 loop = 0xE013 ∷ (0x951A ∷ (0xF7F1 ∷ (0x9508 ∷ [])))
 
+-- the loop, run to its end and up to one cycle less
 abbrev pub run_cases : List Case
 run_cases = runs loop 13 (ending.Ended 13) ∷ (runs loop 12 (ending.Spent 12) ∷ [])
 
@@ -103,9 +108,11 @@ abbrev pub levels : List ℕ → List ℕ
 levels [] = replicate 35 0
 levels (p ∷ ps) = slice_set (levels ps) p 1
 
+-- such a row of function 0
 abbrev pub row_of : List ℕ → ℕ → ℕ → ℕ → List ℕ
 row_of secret region meets remaining = levels secret ++ (region ∷ (meets ∷ (remaining ∷ (0 ∷ []))))
 
+-- r16 is secret before it is compared
 abbrev pub before : List ℕ
 before = row_of (16 ∷ []) 0 0 0
 
@@ -117,6 +124,7 @@ later = row_of (16 ∷ (32 ∷ (33 ∷ [])))
 abbrev pub balanced : List ℕ
 balanced = 0x3000 ∷ (0xF009 ∷ (0x0000 ∷ (0x9508 ∷ [])))
 
+-- the rows of the two arms: what remains is the same on both
 abbrev pub balanced_rows : List ℕ
 balanced_rows = before ++ (later 0 3 2 ++ (later 1 3 1 ++ (later 0 0 0 ++ later 0 0 0)))
 
@@ -124,6 +132,7 @@ balanced_rows = before ++ (later 0 3 2 ++ (later 1 3 1 ++ (later 0 0 0 ++ later 
 abbrev pub uneven : List ℕ
 uneven = 0x3000 ∷ (0xF001 ∷ (0x9508 ∷ []))
 
+-- rows that give the branch 2 cycles to the word behind it
 abbrev pub uneven_rows : List ℕ
 uneven_rows = before ++ (later 0 2 2 ++ (later 0 0 0 ++ later 0 0 0))
 
@@ -135,6 +144,7 @@ open_rows = before ++ (later 0 0 0 ++ (later 1 3 1 ++ (later 0 0 0 ++ later 0 0 
 abbrev pub telling : List ℕ
 telling = 0x3000 ∷ (0xF009 ∷ (0xE027 ∷ (0x9508 ∷ [])))
 
+-- judgements, and the run of the accepted routine for every secret byte
 abbrev pub judge_cases : List Case
 judge_cases =
     judged balanced balanced_rows (chain 2) fine
@@ -144,6 +154,7 @@ judge_cases =
     ∷ (judged telling balanced_rows (chain 2) (refused (refusal 10 (2 ∷ (3 ∷ (18 ∷ [])))))
     ∷ []))))
 
+-- all rows
 abbrev pub table : List Case
 table = word_cases ++ (value_cases ++ (run_cases ++ judge_cases))
 

@@ -9,6 +9,7 @@ use Rattle.words.specs.Encode.{encode_of}
 abbrev pub recode_of : ℕ → Option ℕ
 recode_of w = option_map (λ i. w) (decode_of w)
 
+-- decoding and encoding are inverse to each other
 pub record Inverse : Type 0 where
   -- the instruction of a word encodes to that word,
   pub encodes : (w : ℕ) → w < 2 ^ 16 → (i : Instruction) → decode_of w ≡ Some i → encode_of i ≡ Some w

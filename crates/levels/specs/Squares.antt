@@ -10,6 +10,7 @@ use Rattle.levels.specs.Both.{and_parts₃, and_from₃}
 use Rattle.levels.specs.Everys.{every_each, every_from}
 use Rattle.levels.specs.Semilattices.{Semilattice, semilattice_laws, laws_semilattice}
 
+-- a list of zeros holds 0 at each place and past its end
 pub zeros : (n k : ℕ) → ◌≡◌ {A = ℕ} (slice_index (replicate n 0) k) 0
 zeros n k = ⊎_elim (λ l. get_or-replicate {A = ℕ} n k 0 0 l) (λ l. get_or_past {X = ℕ} (replicate n 0) k 0 (simp length-replicate l)) (cases_lt k n)
 

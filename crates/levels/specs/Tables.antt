@@ -29,12 +29,15 @@ every f (suc n) = every f n && f n
 abbrev pub regroups : (ℕ → ℕ → ℕ) → ℕ → ℕ → ℕ → Bool
 regroups j a b c = j (j a b) c == j a (j b c)
 
+-- a and b join to a code, the same in either order, and regroup with every third
 abbrev pub exchanges : ℕ → (ℕ → ℕ → ℕ) → ℕ → ℕ → Bool
 exchanges n j a b = nat_lt (j a b) n && (j a b == j b a && every (regroups j a b) n)
 
+-- 0 joined with a is a, a with itself is a, and a may be exchanged with every code
 abbrev pub repeats : ℕ → (ℕ → ℕ → ℕ) → ℕ → Bool
 repeats n j a = j 0 a == a && (j a a == a && every (exchanges n j a) n)
 
+-- and so for every code
 abbrev pub semilattice : ℕ → (ℕ → ℕ → ℕ) → Bool
 semilattice n j = every (repeats n j) n
 

@@ -48,5 +48,6 @@ unions n = record {
   associative = λ a b c x y z. or_assoc a b c;
 }
 
+-- compartments keep the laws
 pub union_laws : (n : ℕ) → Laws (compartments n)
 union_laws n = semilattice_laws (2 ^ n) bit_or (unions n)

@@ -13,9 +13,11 @@ pub record Board (B : Type 0) : Type 0 where
   pub state : State B
   pub phase : Phase
 
+-- the board of a state and a phase
 abbrev pub board : {B : Type 0} → State B → Phase → Board B
 board s p = record { state = s; phase = p }
 
+-- a call: clear, run up to a limit, read a place, or put a byte at one
 pub data Call (W : Type 0) : Type 0 where
   clear : Call W
   run : ℕ → Call W
@@ -42,6 +44,7 @@ pub record Done (B : Type 0) : Type 0 where
   pub board : Board B
   pub answer : Answer
 
+-- what a call left, and what it answered
 abbrev pub did : {B : Type 0} → State B → Phase → Answer → Done B
 did s p r = record { board = board s p; answer = r }
 
@@ -51,6 +54,7 @@ phase_of (ending.Spent n) = phase.Running
 phase_of (ending.Ended n) = phase.Ended
 phase_of (ending.Stopped w n) = phase.Stopped w
 
+-- a run that is over, as a call
 abbrev pub finished : {B : Type 0} → Finish B → Done B
 finished f = did f.state (phase_of f.ending) (ends f.ending)
 

@@ -46,5 +46,6 @@ module _ {B V W : Type 0} (M : Machine B V W) where
 abbrev pub CountsFor : Type 0 → Type 0 → Type 0 → Type 0
 CountsFor B V W = (M : Machine B V W) → ((a : ℕ) → Positive (M.kind a)) → (limit : ℕ) (s : State B) → Counts M limit s
 
+-- the law at these types
 abbrev pub CountsStand : Type 0
 CountsStand = CountsFor (ℕ → ℕ) ℕ ℕ

@@ -12,6 +12,7 @@ pub record State (B : Type 0) : Type 0 where
   pub count : ℕ
   pub body : B
 
+-- the state of these
 abbrev pub state : {B : Type 0} → ℕ → List ℕ → ℕ → B → State B
 state a rs n x = record { at = a; returns = rs; count = n; body = x }
 
@@ -62,6 +63,7 @@ paid limit c a rs n x go = cond (nat_lt limit (n + c)) (stops (state a rs n x) (
 abbrev pub landed : {B : Type 0} → ℕ → ℕ → ℕ → List ℕ → ℕ → B → Step B
 landed size a b rs n x = cond (nat_lt b size) (moves (state b rs n x)) (stops (state a rs n x) (ending.Stopped Off n))
 
+-- the same of the address that comes next, if there is one; where there is none the routine has ended
 abbrev pub arrived : {B : Type 0} → ℕ → ℕ → Option ℕ → List ℕ → ℕ → B → Step B
 arrived size a (Some b) rs n x = landed size a b rs n x
 arrived size a None rs n x = stops (state a rs n x) (ending.Ended n)

@@ -9,6 +9,7 @@ use Rattle.orders.specs.declared.simple.Simple.TheVariants.{Chain, Compartments,
 use Rattle.orders.specs.Simples.{meaning_of}
 use Rattle.orders.specs.Chained.{chain_laws}
 
+-- kind by kind
 pub simple_laws : (o : Simple) → Laws (meaning_of o)
 simple_laws (Chain o) = chain_laws o.levels o.size.0 o.size.1
 simple_laws (Compartments o) = union_laws o.bits

@@ -23,6 +23,7 @@ both (made m) (made n) = made (pairs.pair m n)
 both (made m) (unmade r) = unmade r
 both (unmade r) other = unmade r
 
+-- what comes of an order as it is written
 abbrev pub making_written : Written → Outcome Meaning
 making_written (one form) = making_of form
 making_written (pair first second) = both (making_of first) (making_of second)

@@ -32,6 +32,7 @@ abbrev pub words_in : ℕ → Draft → List ℕ → Given
 words_in end d [] = Err (end, NoWords)
 words_in end d (w ∷ ws) = Ok d
 
+-- and so for what the lines gave
 abbrev pub some_words : ℕ → Given → Given
 some_words end (Ok d) = words_in end d d.words
 some_words end (Err wrong) = Err wrong
@@ -41,5 +42,6 @@ abbrev pub text_only : Result (Unit {0}) checking.BadByte → Given → Given
 text_only (Ok fine) given = given
 text_only (Err bad) given = Err (bad.line, BadByte bad.byte)
 
+-- what a file gives
 abbrev pub routine_of : List ℕ → Given
 routine_of file = text_only (checked file) (some_words (length (lines_of file) + 1) (lines_from 1 (lines_of file) nothing))

@@ -19,6 +19,7 @@ pub record LinesInTurn : Type 0 where
   pub first : (n : ℕ) (lines : List (List ℕ)) (bad : List ℕ) (more : List (List ℕ)) (d e : Draft) (wrong : Malformed) → lines_from n lines d ≡ Ok e →
       after_line e bad ≡ Err wrong → lines_from n (lines ++ bad ∷ more) d ≡ Err (n + length lines, wrong)
 
+-- words, bytes and lines are read in this way
 pub record ReadingStands : Type 0 where
   pub words : Gathers word_of
   pub bytes : Gathers byte_of

@@ -11,6 +11,7 @@ use Rattle.routine.specs.declared.faults.Malformed.{Malformed}
 use Rattle.routine.specs.declared.faults.Malformed.TheVariants.{NoOperands, NoNumber, TooLarge, NoPlace, Excess}
 use Rattle.routine.specs.Gathered.{gathered}
 
+-- the tokens of a line that are still to be read
 abbrev pub Tokens : Type 0
 Tokens = List (List ℕ)
 
@@ -28,6 +29,7 @@ abbrev pub no_more : {X : Type 0} → X → Tokens → Result X Malformed
 no_more x [] = Ok x
 no_more x (token ∷ tokens) = Err Excess
 
+-- a reading after which no token may be left
 abbrev pub whole : {X : Type 0} → Read X → Result X Malformed
 whole (Ok p) = no_more p.0 p.1
 whole (Err m) = Err m
@@ -46,6 +48,7 @@ wrong_number most number.TooLarge = TooLarge most
 unfoldable pub number_as : ℕ → List ℕ → Result ℕ Malformed
 number_as most token = result_map_both (λ n. n) (wrong_number most) (limited most (number_of token))
 
+-- such a number as the next token
 abbrev pub number_in : ℕ → Tokens → Read ℕ
 number_in most tokens = one_token (NoNumber most) (number_as most) tokens
 
@@ -53,6 +56,7 @@ number_in most tokens = one_token (NoNumber most) (number_as most) tokens
 abbrev pub word_of : List ℕ → Result ℕ Malformed
 word_of token = number_as 0xFFFF token
 
+-- the byte that a token writes
 abbrev pub byte_of : List ℕ → Result ℕ Malformed
 byte_of token = number_as 0xFF token
 
@@ -70,8 +74,10 @@ abbrev pub place_by : Option (List ℕ) → List ℕ → Result Location Malform
 place_by (Some digits) token = result_map_both location.Register (λ f. NoPlace) (limited 0xFF (number_of digits))
 place_by None token = result_map_both location.Memory (λ f. NoPlace) (limited 0xFFFF (number_of token))
 
+-- the place that a token names
 unfoldable pub place_of : List ℕ → Result Location Malformed
 place_of token = place_by (digits_of_register token) token
 
+-- a place as the next token
 abbrev pub place_in : Tokens → Read Location
 place_in tokens = one_token NoPlace place_of tokens

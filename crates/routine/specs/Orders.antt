@@ -16,10 +16,12 @@ abbrev pub before_kind : Tokens → Tokens
 before_kind [] = []
 before_kind (token ∷ tokens) = cond (is_some (kind_of token)) [] (token ∷ before_kind tokens)
 
+-- the tokens from the next kind of order on
 abbrev pub from_kind : Tokens → Tokens
 from_kind [] = []
 from_kind (token ∷ tokens) = cond (is_some (kind_of token)) (token ∷ tokens) (from_kind tokens)
 
+-- those bytes, read
 abbrev pub bytes_in : Tokens → Read (List ℕ)
 bytes_in tokens = result_map_both (λ bytes. (bytes, from_kind tokens)) (λ m. m) (gathered byte_of (before_kind tokens))
 
@@ -29,12 +31,15 @@ form_in kind.Chain tokens = and_next (number_in 0xFFFF tokens) (λ n rest. Ok (c
 form_in kind.Compartments tokens = and_next (number_in 0xFFFF tokens) (λ n rest. Ok (compartments n, rest))
 form_in kind.Table tokens = and_next (number_in 0xFFFF tokens) (λ n rest. and_next (bytes_in rest) (λ bytes last. Ok (table n bytes, last)))
 
+-- an order of one kind
 abbrev pub simple_in : Tokens → Read Form
 simple_in tokens = and_next (one_token NoOrderKind (λ token. ok_or (kind_of token) NoOrderKind) tokens) form_in
 
+-- two orders of one kind each
 abbrev pub pair_in : Tokens → Read Written
 pair_in tokens = and_next (simple_in tokens) (λ first rest. and_next (simple_in rest) (λ second last. Ok (pair first second, last)))
 
+-- one of them alone
 abbrev pub one_in : Tokens → Read Written
 one_in tokens = and_next (simple_in tokens) (λ form rest. Ok (one form, rest))
 

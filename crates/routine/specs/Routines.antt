@@ -39,15 +39,19 @@ draft_of r = record {
 abbrev pub nothing : Draft
 nothing = record { words = []; order = None; rows = []; form = None; steps = [] }
 
+-- some words more
 abbrev pub with_words : Draft → List ℕ → Draft
 with_words d ws = record { words = d.words ++ ws; order = d.order; rows = d.rows; form = d.form; steps = d.steps }
 
+-- with its order
 abbrev pub with_order : Draft → Written → Draft
 with_order d w = record { words = d.words; order = Some w; rows = d.rows; form = d.form; steps = d.steps }
 
+-- with all its rows, in one form
 abbrev pub with_rows : Draft → List ℕ → RowForm → Draft
 with_rows d rows form = record { words = d.words; order = d.order; rows = rows; form = Some form; steps = d.steps }
 
+-- one step more
 abbrev pub with_step : Draft → Step → Draft
 with_step d s = record { words = d.words; order = d.order; rows = d.rows; form = d.form; steps = d.steps ++ s ∷ [] }
 
@@ -56,6 +60,7 @@ abbrev pub rows_begun : Option RowForm → Bool
 rows_begun None = false
 rows_begun (Some form) = true
 
+-- whether a step is there already
 abbrev pub started : Draft → Bool
 started d = not (length d.steps == 0)
 
@@ -69,6 +74,7 @@ plain_rows d ns (Some Sparse) = Err MixedRows
 abbrev pub with_row : Draft → ℕ → List Entry → Draft
 with_row d a entries = with_rows d (rows_with (length d.words) a entries d.rows) Sparse
 
+-- a row by name, where no rows were written in the other form
 abbrev pub sparse_row : Draft → RowName → List Entry → Option RowForm → Result Draft Malformed
 sparse_row d name entries None = results.result_map_both (λ a. with_row d a entries) (λ m. m) (number_of_row (length d.words) name)
 sparse_row d name entries (Some Plain) = Err MixedRows

@@ -39,10 +39,12 @@ abbrev pub register_in : Option (List ℕ) → Result Column Malformed
 register_in None = Err NoColumn
 register_in (Some digits) = results.result_map_both column.Register (λ f. NoColumn) (limited 31 (number_of digits))
 
+-- a name of its own comes first
 abbrev pub column_by : Option Column → List ℕ → Result Column Malformed
 column_by (Some found) name = Ok found
 column_by None name = register_in (digits_of_register name)
 
+-- the column of a name
 unfoldable pub column_by_name : List ℕ → Result Column Malformed
 column_by_name name = column_by (column_by_own_name name) name
 
@@ -51,10 +53,12 @@ abbrev pub value_of : Result Column Malformed → List ℕ → Result Entry Malf
 value_of (Err m) value = Err m
 value_of (Ok found) value = results.result_map_both (λ n. record { column = found; value = n }) (λ m. m) (word_of value)
 
+-- the name and the value of an assignment, if the token is one
 abbrev pub entry_by : Option (List ℕ × List ℕ) → Result Entry Malformed
 entry_by None = Err NoAssignment
 entry_by (Some p) = value_of (column_by_name p.0) p.1
 
+-- what one token gives a row
 unfoldable pub entry_of : List ℕ → Result Entry Malformed
 entry_of token = entry_by (assigned token)
 
@@ -66,10 +70,12 @@ row_by_token token = cond (bytes_eq token (codes "finish")) (Ok Finish) (results
 abbrev pub with_entries : RowName → Tokens → Result (RowName × List Entry) Malformed
 with_entries name tokens = results.result_map_both (λ entries. (name, entries)) (λ m. m) (gathered entry_of tokens)
 
+-- the row, and then its values
 abbrev pub row_by : Read RowName → Result (RowName × List Entry) Malformed
 row_by (Err m) = Err m
 row_by (Ok p) = with_entries p.0 p.1
 
+-- what the operands of `row` say
 abbrev pub row_of : Tokens → Result (RowName × List Entry) Malformed
 row_of tokens = row_by (one_token NoRow row_by_token tokens)
 

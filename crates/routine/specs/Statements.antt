@@ -33,6 +33,7 @@ stated_of (statement.Rows numbers) = rows (vec_items numbers)
 stated_of (statement.Row name entries) = row name (vec_items entries)
 stated_of (statement.Step s) = step s
 
+-- a statement that is a step and nothing more
 abbrev pub step_of : Read Step → Result Stated Malformed
 step_of reading = result_map_both step (λ m. m) (whole reading)
 

@@ -17,6 +17,7 @@ abbrev pub second_byte : ℕ → Tokens → operands.Read ℕ
 second_byte first [] = Ok (first, [])
 second_byte first (token ∷ tokens) = number_in 0xFF (token ∷ tokens)
 
+-- a judgement has no operands
 abbrev pub judge_in : Tokens → operands.Read Step
 judge_in tokens = Ok (step.Judge, tokens)
 
@@ -24,6 +25,7 @@ judge_in tokens = Ok (step.Judge, tokens)
 abbrev pub call_by : operands.Read Call → operands.Read Step
 call_by reading = and_next reading (λ call rest. Ok (step.Call call, rest))
 
+-- a clearing has none
 abbrev pub clear_in : Tokens → operands.Read Call
 clear_in tokens = Ok (Clear, tokens)
 
@@ -37,5 +39,6 @@ put_in tokens =
 abbrev pub run_in : Tokens → operands.Read Call
 run_in tokens = and_next (number_in 0xFFFFFFFF tokens) (λ limit rest. Ok (Run limit, rest))
 
+-- a place to be read
 abbrev pub read_in : Tokens → operands.Read Call
 read_in tokens = and_next (place_in tokens) (λ place rest. Ok (Read place, rest))

@@ -82,5 +82,6 @@ abbrev pub RulesFor : Type 0 → Type 0 → Type 0 → Type 0
 RulesFor B V W =
     (m : Meaning) (M : Machine B V W) (rows : List ℕ) → (rules_of m M rows ≡ fine → Accepts m M rows) × (Accepts m M rows → rules_of m M rows ≡ fine)
 
+-- the law at some fixed types, since a contract speaks of such
 abbrev pub RulesStand : Type 0
 RulesStand = RulesFor (ℕ → ℕ) ℕ ℕ

@@ -19,6 +19,7 @@ left (runs limit) = run limit
 left (reads w) = read w
 left (puts w x y) = put w x
 
+-- on the other
 abbrev pub right : {W : Type 0} → Both W → Call W
 right clears = clear
 right (runs limit) = run limit

@@ -10,6 +10,7 @@ use Rattle.secrecy.specs.Rules.{rules_of}
 abbrev pub two : Meaning
 two = record { held = λ a. nat_lt a 2; flows = λ a b. nat_le a b && nat_lt b 2; join = λ a b. cond (nat_le a b) b a }
 
+-- whether a number is one of a list
 abbrev pub among : ℕ → List ℕ → Bool
 among p [] = false
 among p (q ∷ qs) = p == q || among p qs
@@ -39,6 +40,7 @@ abbrev pub secret_at : List ℕ → List ℕ
 secret_at [] = replicate places 0
 secret_at (p ∷ ps) = slice_set (secret_at ps) p 1
 
+-- a row of this kind
 abbrev pub row : List ℕ → ℕ → ℕ → ℕ → ℕ → List ℕ
 row secrets region meets remaining function = secret_at secrets ++ (region ∷ (meets ∷ (remaining ∷ (function ∷ []))))
 
@@ -46,6 +48,7 @@ row secrets region meets remaining function = secret_at secrets ++ (region ∷ (
 abbrev pub arms : (ℕ → List ℕ) → Machine (ℕ → ℕ) ℕ ℕ
 arms written = toy (plain 1 1 ∷ (forks (33 ∷ []) 2 1 3 2 ∷ (plain 3 1 ∷ (rets 4 ∷ [])))) written
 
+-- the first word writes both flags, the others nothing
 abbrev pub compares : ℕ → List ℕ
 compares a = cond (a == 0) (32 ∷ (33 ∷ [])) []
 
@@ -53,6 +56,7 @@ compares a = cond (a == 0) (32 ∷ (33 ∷ [])) []
 abbrev pub compares_and_writes : ℕ → List ℕ
 compares_and_writes a = cond (a == 2) (18 ∷ []) (compares a)
 
+-- secret are register 16 and both flags
 abbrev pub flags : List ℕ
 flags = 16 ∷ (32 ∷ (33 ∷ []))
 
@@ -86,9 +90,11 @@ twice_rows after =
     row (16 ∷ []) 0 0 0 0 ++ (row (0 ∷ (16 ∷ [])) 0 0 0 0 ++ (row after 0 0 0 0
     ++ (row (0 ∷ (16 ∷ [])) 0 0 0 3 ++ (row (0 ∷ (16 ∷ [])) 0 0 0 3 ++ row (0 ∷ (16 ∷ [])) 0 0 0 0))))
 
+-- the verdict on some rows under two levels
 abbrev pub judged : Machine (ℕ → ℕ) ℕ ℕ → List ℕ → Verdict
 judged M rows = rules_of two M rows
 
+-- a routine for each refusal, and some for the order of the rules
 pub record Examples : Type 0 where
   pub accepted : judged (arms compares) (arm_rows (row flags 0 3 2 0)) ≡ fine
   -- a number is missing

@@ -10,6 +10,7 @@ use Rattle.secrecy.specs.Rules.{rules_of}
 use Rattle.secrecy.specs.Couples.{Both, AllAllowed, SameAnswers}
 use Rattle.secrecy.specs.Regions.{Takes}
 
+-- what rows hide of a machine
 pub record Hides {B V W : Type 0} (m : Meaning) (M : Machine B V W) (R : Rows) : Type 0 where
   -- Couples: to an observer of any level that is held, two boards, each made anew, answer every list of calls alike, whatever
   -- the limits and whatever secrets are put

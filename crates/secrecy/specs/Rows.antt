@@ -12,12 +12,15 @@ places = 35
 abbrev pub region_column : ℕ
 region_column = 35
 
+-- the join address
 abbrev pub meets_column : ℕ
 meets_column = 36
 
+-- what remains
 abbrev pub remaining_column : ℕ
 remaining_column = 37
 
+-- the function
 abbrev pub function_column : ℕ
 function_column = 38
 

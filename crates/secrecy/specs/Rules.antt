@@ -16,6 +16,7 @@ only_if test check = cond test check fine
 abbrev pub inside : Rows → ℕ → Bool
 inside R a = nat_lt 0 (R.remaining a)
 
+-- nothing remains there
 abbrev pub outside : Rows → ℕ → Bool
 outside R a = R.remaining a == 0
 

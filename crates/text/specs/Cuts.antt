@@ -10,6 +10,7 @@ Computes answers test = (b : ℕ) (t : Bool) → answers b t → t ≡ test b
 abbrev pub front : (ℕ → Bool) → List ℕ → List ℕ
 front test bs = take (prefix_len test bs) bs
 
+-- what follows it
 abbrev pub behind : (ℕ → Bool) → List ℕ → List ℕ
 behind test bs = drop (prefix_len test bs) bs
 

@@ -10,6 +10,7 @@ use Rattle.text.specs.Cuts.{behind, onto}
 abbrev pub file_left : Lines → List ℕ
 file_left lines = lines.rest.now
 
+-- the bytes of a line that were not yet given
 abbrev pub line_left : Line → List ℕ
 line_left line = line.rest.now
 

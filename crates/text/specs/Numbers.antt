@@ -30,6 +30,7 @@ abbrev pub numeral_of : Option (List ℕ) → List ℕ → Option ℕ
 numeral_of (Some ds) token = numeral Hexadecimal ds
 numeral_of None token = numeral Decimal token
 
+-- the number of a token
 abbrev pub number_of : List ℕ → Option ℕ
 number_of token = numeral_of (hex_digits token) token
 

@@ -16,5 +16,6 @@ pub record FirstBroken (rules : ℕ → Verdict) (n : ℕ) : Type 0 where
   pub found : Keeps rules n → first rules n ≡ fine
   pub named : (r : Refusal) → first rules n ≡ refused r → BreaksFirst rules n r
 
+-- and so for any rules
 abbrev pub FirstBrokenStands : Type 0
 FirstBrokenStands = (rules : ℕ → Verdict) (n : ℕ) → FirstBroken rules n

@@ -6,9 +6,11 @@ use Rattle.std.specs.Prelude.{ℕ, zero, suc, Bool, true, false, List, Ok, Err, 
 pub data Refusal : Type 0 where
   refusal : ℕ → List ℕ → Refusal
 
+-- its number
 abbrev pub number_of : Refusal → ℕ
 number_of (refusal n vs) = n
 
+-- what a check says: nothing is wrong, or a refusal
 pub data Verdict : Type 0 where
   fine : Verdict
   refused : Refusal → Verdict

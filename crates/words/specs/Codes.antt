@@ -36,6 +36,7 @@ binary_code binary.Or = 0b001010
 binary_code binary.Mov = 0b001011
 binary_code binary.Mul = 0b100111
 
+-- the operation of such bits
 abbrev pub binary_named : ℕ → Option BinaryOp
 binary_named = named binary_code (binary.Cpc ∷ (binary.Sbc ∷ (binary.Add ∷ (binary.Cpse ∷ (binary.Cp ∷ (binary.Sub ∷ (binary.Adc ∷ (binary.And ∷ (binary.Eor ∷ (binary.Or ∷ (binary.Mov ∷ (binary.Mul ∷ []))))))))))))
 
@@ -47,6 +48,7 @@ immediate_code immediate.Subi = 0b0101
 immediate_code immediate.Andi = 0b0111
 immediate_code immediate.Ldi = 0b1110
 
+-- the operation of such bits
 abbrev pub immediate_named : ℕ → Option ImmediateOp
 immediate_named = named immediate_code (immediate.Cpi ∷ (immediate.Sbci ∷ (immediate.Subi ∷ (immediate.Andi ∷ (immediate.Ldi ∷ [])))))
 
@@ -55,6 +57,7 @@ abbrev pub wide_code : WideOp → ℕ
 wide_code wide.Adiw = 0
 wide_code wide.Sbiw = 1
 
+-- the operation of such a bit
 abbrev pub wide_named : ℕ → Option WideOp
 wide_named = named wide_code (wide.Adiw ∷ (wide.Sbiw ∷ []))
 
@@ -66,6 +69,7 @@ unary_code unary.Lsr = 0b0110
 unary_code unary.Ror = 0b0111
 unary_code unary.Dec = 0b1010
 
+-- the operation of such bits
 abbrev pub unary_named : ℕ → Option UnaryOp
 unary_named = named unary_code (unary.Neg ∷ (unary.Inc ∷ (unary.Lsr ∷ (unary.Ror ∷ (unary.Dec ∷ [])))))
 
@@ -79,6 +83,7 @@ mode_code mode.YDec = 0b1010
 mode_code mode.ZInc = 0b0001
 mode_code mode.ZDec = 0b0010
 
+-- the mode of such bits
 abbrev pub mode_named : ℕ → Option Mode
 mode_named = named mode_code (mode.X ∷ (mode.XInc ∷ (mode.XDec ∷ (mode.YInc ∷ (mode.YDec ∷ (mode.ZInc ∷ (mode.ZDec ∷ [])))))))
 
@@ -87,6 +92,7 @@ abbrev pub base_code : Base → ℕ
 base_code base.Z = 0
 base_code base.Y = 1
 
+-- the pointer of such a bit
 abbrev pub base_named : ℕ → Option Base
 base_named = named base_code (base.Z ∷ (base.Y ∷ []))
 
@@ -95,5 +101,6 @@ abbrev pub flag_code : Flag → ℕ
 flag_code flag.Carry = 0b000
 flag_code flag.Zero = 0b001
 
+-- the flag of such bits
 abbrev pub flag_named : ℕ → Option Flag
 flag_named = named flag_code (flag.Carry ∷ (flag.Zero ∷ []))

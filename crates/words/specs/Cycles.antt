@@ -11,6 +11,7 @@ use Rattle.words.specs.Codes.{mode_code}
 abbrev pub load_cycles : List ℕ
 load_cycles = 0 ∷ (2 ∷ (3 ∷ (0 ∷ (0 ∷ (0 ∷ (0 ∷ (0 ∷ (0 ∷ (2 ∷ (3 ∷ (0 ∷ (1 ∷ (2 ∷ (3 ∷ (0 ∷ [])))))))))))))))
 
+-- of a word on two registers: mul takes 2, and cpse where it skips
 abbrev pub binary_cycles : BinaryOp → Bool → ℕ
 binary_cycles binary.Cpc diverts = 1
 binary_cycles binary.Sbc diverts = 1

@@ -56,6 +56,7 @@ in_pair (Some low) d = d == low || d == low + 1
 abbrev pub pointer_of : ℕ → Mode → Option Instruction
 pointer_of w m = only (not (in_pair (pair_written_back m) (d_of w))) (Some (cond (bits w 9 1 == 0) (Load m (d_of w)) (Store m (d_of w))))
 
+-- a load or a store by a pointer, in one of seven modes
 abbrev pub pointers_of : ℕ → Option Instruction
 pointers_of w = only (bits w 10 6 == 0b100100) (elim (mode_named (bits w 0 4)) [ Some m ↦ pointer_of w m | None ↦ None ])
 
@@ -63,6 +64,7 @@ pointers_of w = only (bits w 10 6 == 0b100100) (elim (mode_named (bits w 0 4)) [
 abbrev pub displacement : ℕ → ℕ
 displacement w = 32 * bits w 13 1 + 8 * bits w 10 2 + bits w 0 3
 
+-- a load or a store at a distance from Y or Z
 abbrev pub displaced_of : ℕ → Option Instruction
 displaced_of w =
     only (bits w 14 2 == 0b10 && bits w 12 1 == 0)

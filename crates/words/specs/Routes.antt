@@ -16,6 +16,7 @@ landing (negsuc n) = 0xFFFF_FFFF
 abbrev pub target : ℕ → ℤ → ℕ
 target at k = landing (pos (at + 1) +ℤ k)
 
+-- cpse forks, to the next word or past it; the others go on
 abbrev pub binary_route : ℕ → BinaryOp → Route
 binary_route at binary.Cpc = To (at + 1)
 binary_route at binary.Sbc = To (at + 1)
@@ -30,6 +31,7 @@ binary_route at binary.Or = To (at + 1)
 binary_route at binary.Mov = To (at + 1)
 binary_route at binary.Mul = To (at + 1)
 
+-- where an instruction at an address leads
 abbrev pub route_of : ℕ → Instruction → Route
 route_of at (Binary op d r) = binary_route at op
 route_of at (Immediate op d k) = To (at + 1)
