@@ -1,8 +1,7 @@
 //! What the words and rows of a refusal say.
-ghost use Rattle.std.specs.Prelude.{◌≡◌, ◌||◌};
+ghost use Rattle.std.specs.Prelude.{◌≡◌};
 ghost use Rattle.avr.specs.Chip.{instruction_of};
 ghost use Rattle.row_layout.specs.Views.{seen};
-ghost use Rattle.secrecy.specs.Rules.{leaves, stays};
 ghost use Rattle.explanations.specs.Views.{cycles_to, due_cycles, due_join};
 
 use crate::refusal::Refusal;
@@ -17,13 +16,6 @@ impl Refusal<'_> {
         self.routine.meets(row)
     }
 
-    /// Whether a way from inside a region ends the region in time, or stays in it with so much less remaining.
-    fn is_timed(&self, at: u16, next: u32, cycles: u8) -> bool
-        ensures { result ≡ (leaves (seen self.now.routine) at next cycles || stays (seen self.now.routine) at next cycles) }
-    {
-        self.routine.leaves(at, next, cycles) || self.routine.stays(at, next, cycles)
-    }
-
     /// The cycles of the way from a word to a next address. Where both ways of a fork lead there, the first that is not in time is the
     /// one that was refused.
     pub(crate) fn cycles(&self, at: u16, next: u32) -> u8
@@ -32,9 +24,11 @@ impl Refusal<'_> {
         let instruction = self.routine.instruction(at);
         let straight = instruction.cycles(false);
         match instruction.route(at) {
-            Route::Fork(on, aside) => instruction.cycles(
-                aside == next && (on != next || self.is_timed(at, next, straight)),
-            ),
+            Route::Fork(on, aside) => {
+                let in_time = self.routine.leaves(at, next, straight)
+                    || self.routine.stays(at, next, straight);
+                instruction.cycles(aside == next && (on != next || in_time))
+            }
             Route::To(_) | Route::Call(_) | Route::Return => straight,
         }
     }
