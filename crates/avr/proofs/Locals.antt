@@ -11,11 +11,11 @@ use Rattle.alu.specs.Arithmetic.{counterpart}
 use Rattle.avr.specs.Core.{Core}
 use Rattle.avr.specs.Effects.{binary_effect, effect_of}
 use Rattle.avr.specs.Table.{holds_of, binary_rows, rows_of, origins_of}
-use Rattle.avr.specs.Chip.{fine_core}
+use Rattle.avr.specs.Chip.{well_formed_core}
 use Rattle.avr.specs.Exact.{Same}
 use Rattle.avr.proofs.Rows.{EachRow, found}
 
-module _ (x y : Core) (fx : fine_core x ≡ true) (fy : fine_core y ≡ true) where
+module _ (x y : Core) (fx : well_formed_core x ≡ true) (fy : well_formed_core y ≡ true) where
   -- after two states have become x' and y', a row is local
   abbrev Local : Core → Core → ℕ → List ℕ → Type 0
   Local x' y' p qs = Same x y qs → holds_of x' p ≡ holds_of y' p

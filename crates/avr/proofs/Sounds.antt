@@ -10,7 +10,7 @@ use Rattle.machine.specs.Machine.{forks, Positive, Sound}
 use Rattle.avr.specs.Core.{Core}
 use Rattle.avr.specs.Effects.{effect_of}
 use Rattle.avr.specs.Table.{origins_of, deciders_of}
-use Rattle.avr.specs.Chip.{instruction_of, kind_of, fine_core, avr}
+use Rattle.avr.specs.Chip.{instruction_of, kind_of, well_formed_core, avr}
 use Rattle.avr.specs.Exact.{Exact, TableExact}
 use Rattle.avr.proofs.Locals.{local}
 
@@ -51,8 +51,8 @@ written o e = grind arith
 unwritten : (o : Option (List ℕ)) → is_some o ≡ false → o ≡ None
 unwritten o e = grind arith
 
-fine_effect : (i : Instruction) (x : Core) → fine_core x ≡ true → fine_core (effect_of i x) ≡ true
-fine_effect i x h = grind (arith, length-set)
+well_formed_effect : (i : Instruction) (x : Core) → well_formed_core x ≡ true → well_formed_core (effect_of i x) ≡ true
+well_formed_effect i x h = grind (arith, length-set)
 
 pub sound : (ws : List ℕ) → Sound (avr ws)
 sound ws =
@@ -63,9 +63,9 @@ sound ws =
       kept = λ a p x w. (told a).kept x p (unwritten (origins_of (instruction_of ws a) p) w);
       decided = λ a qs b c b' c' e x y h. (told a).decided x y (rw (fork_deciders a (instruction_of ws a) qs b c b' c' e) h);
       still = λ a. still a (instruction_of ws a);
-      fine_blank = refl;
-      fine_effect = λ a. fine_effect (instruction_of ws a);
-      fine_put = λ w n x h. grind (arith, length-set);
+      well_formed_blank = refl;
+      well_formed_effect = λ a. well_formed_effect (instruction_of ws a);
+      well_formed_put = λ w n x h. grind (arith, length-set);
       put_same = λ w n x y q v fx fy h. grind (arith, nat_tests, get_or-set_at, get_or-set_other);
       put_else = λ w n k x y q v o h. grind (arith, nat_tests, get_or-set_other);
       get_same = λ w x y v h. grind (arith, nat_tests);

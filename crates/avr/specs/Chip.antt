@@ -43,8 +43,8 @@ abbrev pub blank_core : Core
 blank_core = core (replicate register_count 0) false false (replicate memory_size 0)
 
 -- there are as many registers and bytes as there should be
-abbrev pub fine_core : Core → Bool
-fine_core x = length x.registers == register_count && length x.memory == memory_size
+abbrev pub well_formed_core : Core → Bool
+well_formed_core x = length x.registers == register_count && length x.memory == memory_size
 
 -- every address of the memory belongs to the one place
 abbrev pub place_of : Location → ℕ
@@ -78,7 +78,7 @@ avr ws =
       decides = λ a. diverts_of (instruction_of ws a);
       holds = holds_of;
       blank = blank_core;
-      fine = fine_core;
+      well_formed = well_formed_core;
       place = place_of;
       valid = valid_of;
       put = put_of;

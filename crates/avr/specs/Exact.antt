@@ -6,7 +6,7 @@ use Rattle.machine.specs.Machine.{Each}
 use Rattle.avr.specs.Core.{Core}
 use Rattle.avr.specs.Effects.{effect_of, diverts_of}
 use Rattle.avr.specs.Table.{holds_of, origins_of, deciders_of}
-use Rattle.avr.specs.Chip.{fine_core}
+use Rattle.avr.specs.Chip.{well_formed_core}
 
 -- two states hold the same at each of some places
 abbrev pub Same : Core → Core → List ℕ → Type 0
@@ -15,7 +15,7 @@ Same x y qs = Each (λ q. holds_of x q ≡ holds_of y q) qs
 -- what the table says of an instruction is true of what the instruction does
 pub record Exact (i : Instruction) : Type 0 where
   -- what a written place holds afterwards is a function of the places that it comes from
-  pub local : (x y : Core) → fine_core x ≡ true → fine_core y ≡ true → (p : ℕ) (qs : List ℕ) → origins_of i p ≡ Some qs → Same x y qs → holds_of (effect_of i x) p ≡ holds_of (effect_of i y) p
+  pub local : (x y : Core) → well_formed_core x ≡ true → well_formed_core y ≡ true → (p : ℕ) (qs : List ℕ) → origins_of i p ≡ Some qs → Same x y qs → holds_of (effect_of i x) p ≡ holds_of (effect_of i y) p
   -- every other place keeps what it holds
   pub kept : (x : Core) (p : ℕ) → origins_of i p ≡ None → holds_of (effect_of i x) p ≡ holds_of x p
   -- which way it goes is a function of its deciding places

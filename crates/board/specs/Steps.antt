@@ -8,16 +8,16 @@ use Rattle.machine.specs.Run.{State, Step, stops, paid, overfull, arrived, next_
 use Rattle.avr.specs.Core.{Core}
 use Rattle.avr.specs.Chip.{instruction_of}
 use Rattle.cells.specs.declared.work.Operand.TheVariants.{Register}
-use Rattle.cells.specs.declared.work.Joining.TheVariants as joining
+use Rattle.cells.specs.declared.work.Binary.TheVariants as two
 use Rattle.cells.specs.declared.cell.Way.{Way}
 use Rattle.cells.specs.declared.cell.Way.TheVariants as way
 use Rattle.cells.specs.declared.cell.Cell.{Cell}
-use Rattle.cells.specs.Works.{joined}
+use Rattle.cells.specs.Works.{two_operands}
 use Rattle.cells.specs.Cells.{cell_of, kind_in, effect_in, diverts_in}
 
 -- what reads past the end of the cells; nothing depends on it
 abbrev pub blank_cell : Cell
-blank_cell = record { way = way.On (joined 0 (joining.Sum false) (Register 0)); on = 0; aside = 0 }
+blank_cell = record { way = way.On (two_operands 0 (two.Sum false) (Register 0)); on = 0; aside = 0 }
 
 -- the cells are those of the words
 abbrev pub Fetched : List ℕ → List Cell → Type 0

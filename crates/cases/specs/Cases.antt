@@ -110,7 +110,7 @@ levels (p ∷ ps) = slice_set (levels ps) p 1
 
 -- such a row of function 0
 abbrev pub row_of : List ℕ → ℕ → ℕ → ℕ → List ℕ
-row_of secret region meets remaining = levels secret ++ (region ∷ (meets ∷ (remaining ∷ (0 ∷ []))))
+row_of secret region join_address remaining = levels secret ++ (region ∷ (join_address ∷ (remaining ∷ (0 ∷ []))))
 
 -- r16 is secret before it is compared
 abbrev pub before : List ℕ

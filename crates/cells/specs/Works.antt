@@ -16,57 +16,57 @@ use Rattle.cells.specs.declared.work.Operand.{Operand}
 use Rattle.cells.specs.declared.work.Operand.TheVariants.{Register, Constant}
 use Rattle.cells.specs.declared.work.Logic.{Logic}
 use Rattle.cells.specs.declared.work.Logic.TheVariants as logic
-use Rattle.cells.specs.declared.work.Joining.{Joining}
-use Rattle.cells.specs.declared.work.Joining.TheVariants as joining
-use Rattle.cells.specs.declared.work.Lone.{Lone}
-use Rattle.cells.specs.declared.work.Lone.TheVariants as lone
+use Rattle.cells.specs.declared.work.Binary.{Binary}
+use Rattle.cells.specs.declared.work.Binary.TheVariants as two
+use Rattle.cells.specs.declared.work.Unary.{Unary}
+use Rattle.cells.specs.declared.work.Unary.TheVariants as one
 use Rattle.cells.specs.declared.work.ByteWork.{ByteWork}
 use Rattle.cells.specs.declared.work.ByteWork.TheVariants as byte
 use Rattle.cells.specs.declared.work.Step.TheVariants.{Up, Down}
 use Rattle.cells.specs.declared.work.Reach.{Reach}
 use Rattle.cells.specs.declared.work.Reach.TheVariants.{Plain, Displaced, Stepped}
-use Rattle.cells.specs.declared.work.Quiet.{Quiet}
-use Rattle.cells.specs.declared.work.Quiet.TheVariants as quiets
+use Rattle.cells.specs.declared.work.Nullary.{Nullary}
+use Rattle.cells.specs.declared.work.Nullary.TheVariants as nullary
 use Rattle.cells.specs.declared.work.PairWork.{PairWork}
 use Rattle.cells.specs.declared.work.PairWork.TheVariants as pair
 use Rattle.cells.specs.declared.work.Work.{Work}
 use Rattle.cells.specs.declared.work.Work.TheVariants as work
 
 -- an operation on the register d and a second byte
-abbrev pub joined : ℕ → Joining → Operand → Work
-joined d j o = work.Byte d (byte.Joined j o)
+abbrev pub two_operands : ℕ → Binary → Operand → Work
+two_operands d j o = work.Byte d (byte.Binary j o)
 
 -- what touches the carry at most
-abbrev pub quiet : Quiet → Work
-quiet q = work.Pair (pair.Quiet q)
+abbrev pub nullary_work : Nullary → Work
+nullary_work q = work.Pair (pair.Nullary q)
 
 -- mul takes two registers only
 abbrev pub product_work : ℕ → Operand → Work
 product_work d (Register r) = work.Pair (pair.Mul d r)
-product_work d (Constant k) = quiet quiets.Nop
+product_work d (Constant k) = nullary_work nullary.Nop
 
 -- which work an operation on two bytes is
 abbrev pub binary_work : BinaryOp → ℕ → Operand → Work
-binary_work binary.Cpc d o = joined d (joining.Difference true false) o
-binary_work binary.Sbc d o = joined d (joining.Difference true true) o
-binary_work binary.Add d o = joined d (joining.Sum false) o
-binary_work binary.Cpse d o = quiet quiets.Nop
-binary_work binary.Cp d o = joined d (joining.Difference false false) o
-binary_work binary.Sub d o = joined d (joining.Difference false true) o
-binary_work binary.Adc d o = joined d (joining.Sum true) o
-binary_work binary.And d o = joined d (joining.Logic logic.And) o
-binary_work binary.Eor d o = joined d (joining.Logic logic.Eor) o
-binary_work binary.Or d o = joined d (joining.Logic logic.Or) o
+binary_work binary.Cpc d o = two_operands d (two.Difference true false) o
+binary_work binary.Sbc d o = two_operands d (two.Difference true true) o
+binary_work binary.Add d o = two_operands d (two.Sum false) o
+binary_work binary.Cpse d o = nullary_work nullary.Nop
+binary_work binary.Cp d o = two_operands d (two.Difference false false) o
+binary_work binary.Sub d o = two_operands d (two.Difference false true) o
+binary_work binary.Adc d o = two_operands d (two.Sum true) o
+binary_work binary.And d o = two_operands d (two.Logic logic.And) o
+binary_work binary.Eor d o = two_operands d (two.Logic logic.Eor) o
+binary_work binary.Or d o = two_operands d (two.Logic logic.Or) o
 binary_work binary.Mov d o = work.Byte d (byte.Copied o)
 binary_work binary.Mul d o = product_work d o
 
 -- which work an operation on one byte is; to take 1 away is to add 255
-abbrev pub unary_work : UnaryOp → Lone
-unary_work unary.Neg = lone.Negate
-unary_work unary.Inc = lone.Count 1
-unary_work unary.Lsr = lone.Shift false
-unary_work unary.Ror = lone.Shift true
-unary_work unary.Dec = lone.Count 255
+abbrev pub unary_work : UnaryOp → Unary
+unary_work unary.Neg = one.Negate
+unary_work unary.Inc = one.Count 1
+unary_work unary.Lsr = one.Shift false
+unary_work unary.Ror = one.Shift true
+unary_work unary.Dec = one.Count 255
 
 -- how a mode finds its address
 abbrev pub reach_of : Mode → Reach
@@ -87,18 +87,18 @@ abbrev pub work_of : Instruction → Work
 work_of (instruction.Binary op d r) = binary_work op d (Register r)
 work_of (instruction.Immediate op d k) = binary_work (counterpart op) d (Constant k)
 work_of (instruction.Wide op d k) = work.Pair (pair.Wide op d k)
-work_of (instruction.Movw d r) = quiet (quiets.Movw d r)
-work_of (instruction.Unary op d) = work.Byte d (byte.Lone (unary_work op))
+work_of (instruction.Movw d r) = nullary_work (nullary.Movw d r)
+work_of (instruction.Unary op d) = work.Byte d (byte.Unary (unary_work op))
 work_of (instruction.Load m d) = access false d (pointer_pair m) (reach_of m)
 work_of (instruction.Store m r) = access true r (pointer_pair m) (reach_of m)
 work_of (instruction.LoadDisplaced b q d) = access false d (base_pair b) (Displaced q)
 work_of (instruction.StoreDisplaced b q r) = access true r (base_pair b) (Displaced q)
-work_of (instruction.Rjmp k) = quiet quiets.Nop
-work_of (instruction.Rcall k) = quiet quiets.Nop
-work_of (instruction.Branch f set k) = quiet quiets.Nop
-work_of instruction.Ret = quiet quiets.Nop
-work_of instruction.Clc = quiet quiets.Clc
-work_of instruction.Nop = quiet quiets.Nop
+work_of (instruction.Rjmp k) = nullary_work nullary.Nop
+work_of (instruction.Rcall k) = nullary_work nullary.Nop
+work_of (instruction.Branch f set k) = nullary_work nullary.Nop
+work_of instruction.Ret = nullary_work nullary.Nop
+work_of instruction.Clc = nullary_work nullary.Clc
+work_of instruction.Nop = nullary_work nullary.Nop
 
 -- the byte that an operand names
 abbrev pub operand_of : Operand → List ℕ → ℕ
@@ -117,25 +117,25 @@ kept true x d b with-carry = stored x d (difference_of (reg x.registers d) b (wi
 kept false x d b with-carry = compared x (difference_of (reg x.registers d) b (with-carry && x.carry) (not with-carry || x.zero))
 
 -- an operation on the register d and the byte b
-abbrev pub joined_effect : Joining → ℕ → ℕ → Core → Core
-joined_effect (joining.Sum with-carry) d b x = stored x d (sum_of (reg x.registers d) b (with-carry && x.carry))
-joined_effect (joining.Difference with-carry keep) d b x = kept keep x d b with-carry
-joined_effect (joining.Logic op) d b x = stored x d (logic_of (logic_bits op (reg x.registers d) b) x.carry)
+abbrev pub binary_effect : Binary → ℕ → ℕ → Core → Core
+binary_effect (two.Sum with-carry) d b x = stored x d (sum_of (reg x.registers d) b (with-carry && x.carry))
+binary_effect (two.Difference with-carry keep) d b x = kept keep x d b with-carry
+binary_effect (two.Logic op) d b x = stored x d (logic_of (logic_bits op (reg x.registers d) b) x.carry)
 
 -- the register d shifted to v: the bit that left is the carry
 abbrev pub shifted : ℕ → ℕ → Core → Core
 shifted d v x = stored x d (output v (eqb (reg x.registers d % 2) 1) (eqb v 0))
 
 -- an operation on the register d alone
-abbrev pub lone_effect : Lone → ℕ → Core → Core
-lone_effect (lone.Count n) d x = stored x d (logic_of ((reg x.registers d + n) % 256) x.carry)
-lone_effect (lone.Shift through) d x = shifted d (128 * bit (through && x.carry) + reg x.registers d / 2) x
-lone_effect lone.Negate d x = stored x d (difference_of 0 (reg x.registers d) false true)
+abbrev pub unary_effect : Unary → ℕ → Core → Core
+unary_effect (one.Count n) d x = stored x d (logic_of ((reg x.registers d + n) % 256) x.carry)
+unary_effect (one.Shift through) d x = shifted d (128 * bit (through && x.carry) + reg x.registers d / 2) x
+unary_effect one.Negate d x = stored x d (difference_of 0 (reg x.registers d) false true)
 
 -- what is done to the register d
 abbrev pub byte_effect : ByteWork → ℕ → Core → Core
-byte_effect (byte.Joined j o) d x = joined_effect j d (operand_of o x.registers) x
-byte_effect (byte.Lone l) d x = lone_effect l d x
+byte_effect (byte.Binary j o) d x = binary_effect j d (operand_of o x.registers) x
+byte_effect (byte.Unary l) d x = unary_effect l d x
 byte_effect (byte.Copied o) d x = core (set x.registers d (operand_of o x.registers)) x.carry x.zero x.memory
 
 -- the register stored at an address, or loaded from it
@@ -155,16 +155,16 @@ access_effect s r (Stepped Up) d p x = back d (one_up p) (transferred s r p x)
 access_effect s r (Stepped Down) d p x = back d (one_down p) (transferred s r (one_down p) x)
 
 -- what touches the carry at most
-abbrev pub quiet_effect : Quiet → Core → Core
-quiet_effect (quiets.Movw d r) x = effect_of (instruction.Movw d r) x
-quiet_effect quiets.Clc x = effect_of instruction.Clc x
-quiet_effect quiets.Nop x = x
+abbrev pub nullary_effect : Nullary → Core → Core
+nullary_effect (nullary.Movw d r) x = effect_of (instruction.Movw d r) x
+nullary_effect nullary.Clc x = effect_of instruction.Clc x
+nullary_effect nullary.Nop x = x
 
 -- what works on pairs, and the few words that are left
 abbrev pub pair_effect : PairWork → Core → Core
 pair_effect (pair.Wide op d k) x = effect_of (instruction.Wide op d k) x
 pair_effect (pair.Mul d r) x = effect_of (instruction.Binary binary.Mul d r) x
-pair_effect (pair.Quiet q) x = quiet_effect q x
+pair_effect (pair.Nullary q) x = nullary_effect q x
 
 -- what a work makes of registers, flags and memory
 abbrev pub work_effect : Work → Core → Core
@@ -179,21 +179,21 @@ OperandFits (Constant k) = Unit {0}
 
 -- the second byte's register is one
 abbrev pub ByteFits : ByteWork → Type 0
-ByteFits (byte.Joined j o) = OperandFits o
-ByteFits (byte.Lone l) = Unit {0}
+ByteFits (byte.Binary j o) = OperandFits o
+ByteFits (byte.Unary l) = Unit {0}
 ByteFits (byte.Copied o) = OperandFits o
 
 -- both pairs are pairs
-abbrev pub QuietFits : Quiet → Type 0
-QuietFits (quiets.Movw d r) = (d + 1 < 32) × (r + 1 < 32)
-QuietFits quiets.Clc = Unit {0}
-QuietFits quiets.Nop = Unit {0}
+abbrev pub NullaryFits : Nullary → Type 0
+NullaryFits (nullary.Movw d r) = (d + 1 < 32) × (r + 1 < 32)
+NullaryFits nullary.Clc = Unit {0}
+NullaryFits nullary.Nop = Unit {0}
 
 -- the registers and pairs that are named are such
 abbrev pub PairFits : PairWork → Type 0
 PairFits (pair.Wide op d k) = d + 1 < 32
 PairFits (pair.Mul d r) = (d < 32) × (r < 32)
-PairFits (pair.Quiet q) = QuietFits q
+PairFits (pair.Nullary q) = NullaryFits q
 
 -- every register that a work names is one
 abbrev pub Fits : Work → Type 0

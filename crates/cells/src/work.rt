@@ -25,7 +25,7 @@ pub enum Logic {
 /// An operation on a register and a second byte: a sum, a difference that is kept or else only compared, each with the carry
 /// or without, or a logic operation.
 #[derive(Clone, Copy)]
-pub enum Joining {
+pub enum Binary {
     Sum { with_carry: bool },
     Difference { with_carry: bool, kept: bool },
     Logic(Logic),
@@ -34,7 +34,7 @@ pub enum Joining {
 /// An operation on one register: a byte is added that keeps the carry, a shift down by one, in which the carry may come
 /// through, or the negative.
 #[derive(Clone, Copy)]
-pub enum Lone {
+pub enum Unary {
     Count(u8),
     Shift { through: bool },
     Negate,
@@ -43,8 +43,8 @@ pub enum Lone {
 /// What is done to one register.
 #[derive(Clone, Copy)]
 pub enum ByteWork {
-    Joined(Joining, Operand),
-    Lone(Lone),
+    Binary(Binary, Operand),
+    Unary(Unary),
     Copied(Operand),
 }
 
@@ -75,7 +75,7 @@ pub struct Access {
 
 /// What sets no flag but the carry, and takes no second byte.
 #[derive(Clone, Copy)]
-pub enum Quiet {
+pub enum Nullary {
     Movw { d: u8, r: u8 },
     Clc,
     Nop,
@@ -86,7 +86,7 @@ pub enum Quiet {
 pub enum PairWork {
     Wide { op: WideOp, d: u8, k: u8 },
     Mul { d: u8, r: u8 },
-    Quiet(Quiet),
+    Nullary(Nullary),
 }
 
 /// What a word does to registers, flags and memory.

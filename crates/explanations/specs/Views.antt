@@ -25,7 +25,7 @@ cycles_to R a b i = cycles_by R a b (route_of a i) i
 
 -- the join address that a row before b would have to say: b itself, where b is outside every region
 abbrev pub due_join : Rows → ℕ → ℕ
-due_join R b = if R.remaining b == 0 then b else R.meets b
+due_join R b = if R.remaining b == 0 then b else R.join_address b
 
 -- the remaining cycles that row a would have to say: those of the way, and what remains at b
 abbrev pub due_cycles : Rows → ℕ → ℕ → Instruction → ℕ

@@ -11,9 +11,9 @@ impl Refusal<'_> {
     /// The join address of a row.
     // Under the name that routine files and explanations have for it.
     pub(crate) fn join(&self, row: u32) -> u16
-        ensures { result ≡ (seen self.now.routine).meets row }
+        ensures { result ≡ (seen self.now.routine).join_address row }
     {
-        self.routine.meets(row)
+        self.routine.join_address(row)
     }
 
     /// The cycles of the way from a word to a next address. Where both ways of a fork lead there, the first that is not in time is the

@@ -19,7 +19,7 @@ pub record Callees (routine : RoutineView) (callees : List (Option ℕ)) : Type 
   pub long : length callees ≡ 1024
   pub each : (b : ℕ) → b < 1024 → slice_index_or callees b None ≡ callee_of ((chip routine).kind b)
 
--- what the word at an address leaves behind: the level of each place after it, and its stake
+-- what the word at an address leaves behind: the level of each place after it, and its pc_level
 pub record Departs (m : Meaning) (routine : RoutineView) (at : ℕ) (after : List ℕ) (known : ℕ) : Type 0 where
   pub levels : (p : ℕ) → p < places → slice_index after p ≡ flow.level_after m (chip routine) (seen routine) at p
-  pub stake : known ≡ flow.stake m (chip routine) (seen routine) at
+  pub pc_level : known ≡ flow.pc_level m (chip routine) (seen routine) at

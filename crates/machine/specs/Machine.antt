@@ -40,7 +40,7 @@ pub record Machine (B V W : Type 0) : Type 0 where
   pub holds : B → ℕ → V
   -- everything cleared, and whether all is as large as it should be
   pub blank : B
-  pub fine : B → Bool
+  pub well_formed : B → Bool
   -- the place that a put or a read touches, whether there is one, and what it does
   pub place : W → ℕ
   pub valid : W → Bool
@@ -55,7 +55,7 @@ AgreeOn M qs x y = Each (λ q. M.holds x q ≡ M.holds y q) qs
 pub record Sound {B V W : Type 0} (M : Machine B V W) : Type 0 where
   pub positive : (a : ℕ) → Positive (M.kind a)
   -- the new value of a written place is a function of its sources alone
-  pub local : (a p : ℕ) (x y : B) → M.fine x ≡ true → M.fine y ≡ true → M.writes a p ≡ true → AgreeOn M (M.sources a p) x y → M.holds (M.effect a x) p ≡ M.holds (M.effect a y) p
+  pub local : (a p : ℕ) (x y : B) → M.well_formed x ≡ true → M.well_formed y ≡ true → M.writes a p ≡ true → AgreeOn M (M.sources a p) x y → M.holds (M.effect a x) p ≡ M.holds (M.effect a y) p
   -- a place that is not written keeps its value
   pub kept : (a p : ℕ) (x : B) → M.writes a p ≡ false → M.holds (M.effect a x) p ≡ M.holds x p
   -- which way a fork takes is a function of its deciding places alone
@@ -63,10 +63,10 @@ pub record Sound {B V W : Type 0} (M : Machine B V W) : Type 0 where
   -- a fork writes nothing
   pub still : (a : ℕ) (qs : List ℕ) (b c b' c' : ℕ) → M.kind a ≡ forks qs b c b' c' → (p : ℕ) → M.writes a p ≡ false
   -- sizes are kept
-  pub fine_blank : M.fine M.blank ≡ true
-  pub fine_effect : (a : ℕ) (x : B) → M.fine x ≡ true → M.fine (M.effect a x) ≡ true
-  pub fine_put : (w : W) (n : ℕ) (x : B) → M.fine x ≡ true → M.fine (M.put w n x) ≡ true
+  pub well_formed_blank : M.well_formed M.blank ≡ true
+  pub well_formed_effect : (a : ℕ) (x : B) → M.well_formed x ≡ true → M.well_formed (M.effect a x) ≡ true
+  pub well_formed_put : (w : W) (n : ℕ) (x : B) → M.well_formed x ≡ true → M.well_formed (M.put w n x) ≡ true
   -- a put touches its place only, and a read comes from it only
-  pub put_same : (w : W) (n : ℕ) (x y : B) (q : ℕ) → M.valid w ≡ true → M.fine x ≡ true → M.fine y ≡ true → M.holds x q ≡ M.holds y q → M.holds (M.put w n x) q ≡ M.holds (M.put w n y) q
+  pub put_same : (w : W) (n : ℕ) (x y : B) (q : ℕ) → M.valid w ≡ true → M.well_formed x ≡ true → M.well_formed y ≡ true → M.holds x q ≡ M.holds y q → M.holds (M.put w n x) q ≡ M.holds (M.put w n y) q
   pub put_else : (w : W) (n k : ℕ) (x y : B) (q : ℕ) → M.valid w ≡ true → (q ≢ M.place w) → M.holds x q ≡ M.holds y q → M.holds (M.put w n x) q ≡ M.holds (M.put w k y) q
   pub get_same : (w : W) (x y : B) → M.valid w ≡ true → M.holds x (M.place w) ≡ M.holds y (M.place w) → M.get w x ≡ M.get w y

@@ -66,8 +66,8 @@ impl RoutineView<'_> {
     }
 
     /// The join address of a row.
-    pub fn meets(&self, row: u32) -> u16
-        ensures { result ≡ (seen self.now).meets row }
+    pub fn join_address(&self, row: u32) -> u16
+        ensures { result ≡ (seen self.now).join_address row }
     {
         self.cell(row, JOIN)
     }
@@ -91,7 +91,7 @@ impl RoutineView<'_> {
         ensures { result ≡ leaves_of (seen self.now) at next cycles }
     {
         let row = u32::from(at);
-        next == u32::from(self.meets(row))
+        next == u32::from(self.join_address(row))
             && (self.remaining(next) == 0 && self.remaining(row) == u16::from(cycles))
     }
 
@@ -100,7 +100,7 @@ impl RoutineView<'_> {
         ensures { result ≡ stays_of (seen self.now) at next cycles }
     {
         let row = u32::from(at);
-        self.meets(next) == self.meets(row)
+        self.join_address(next) == self.join_address(row)
             && (self.remaining(next) > 0
                 && u32::from(self.remaining(row))
                     == u32::from(cycles) + u32::from(self.remaining(next)))

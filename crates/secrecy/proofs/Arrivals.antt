@@ -24,7 +24,7 @@ module _ {B V W : Type 0} (M : Machine B V W) where
 module _ {B V W : Type 0} (m : Meaning) (M : Machine B V W) (sound : Sound M) (R : Rows) (rules : Accepted m M R) where
   -- the way out of a region, to an address outside
   abbrev Out : State B → Type 0
-  Out s = Reaches M (R.meets s.at) s (R.remaining s.at) × (R.remaining (R.meets s.at) ≡ 0)
+  Out s = Reaches M (R.join_address s.at) s (R.remaining s.at) × (R.remaining (R.join_address s.at) ≡ 0)
 
   abbrev Shorter : ℕ → Type 0
   Shorter n = (u : State B) → u.at < M.size → R.remaining u.at ≤ n → 0 < R.remaining u.at → Out u
@@ -35,12 +35,12 @@ module _ {B V W : Type 0} (m : Meaning) (M : Machine B V W) (sound : Sound M) (R
 
     module _ (p : step M (s.count + c) s ≡ moves next) where
       -- one word, and then the rest
-      first : (n : ℕ) → R.remaining (R.meets s.at) ≡ 0 → R.remaining s.at ≡ c + n → Reaches M (R.meets s.at) next n → Out s
+      first : (n : ℕ) → R.remaining (R.join_address s.at) ≡ 0 → R.remaining s.at ≡ c + n → Reaches M (R.join_address s.at) next n → Out s
       first n o e r = search (sets, arith, goes)
 
       edged : (n : ℕ) → 0 < c → R.remaining s.at ≤ suc n → Shorter n → Out s
       edged n pos le later =
-          let there : b ≡ R.meets s.at → Reaches M (R.meets s.at) next 0 = stands next in
+          let there : b ≡ R.join_address s.at → Reaches M (R.join_address s.at) next 0 = stands next in
           grind (arith, edge.timed h, there, first 0, first (R.remaining b), later next edge.listed)
 
   out_by : (n : ℕ) (s : State B) (k : Kind) (d : Bool) → M.kind s.at ≡ k → M.decides s.at s.body ≡ d → WordRule m M R s.at k → Positive k →
@@ -54,7 +54,7 @@ module _ {B V W : Type 0} (m : Meaning) (M : Machine B V W) (sound : Sound M) (R
   out zero s l le h = absurd (omega arith)
   out (suc n) s l le h = out_by n s (M.kind s.at) (M.decides s.at s.body) refl refl (rules.words s.at l) (sound.positive s.at) le h (out n)
 
-  pub on_time : (s : State B) → s.at < M.size → 0 < R.remaining s.at → Takes M (R.meets s.at) s (R.remaining s.at)
+  pub on_time : (s : State B) → s.at < M.size → 0 < R.remaining s.at → Takes M (R.join_address s.at) s (R.remaining s.at)
   on_time s l h =
       let way = (out (R.remaining s.at) s l (omega arith) h).0 in
-      record { arrives = way; only = λ n r. reaches_once M (R.meets s.at) s n (R.remaining s.at) r way }
+      record { arrives = way; only = λ n r. reaches_once M (R.join_address s.at) s n (R.remaining s.at) r way }

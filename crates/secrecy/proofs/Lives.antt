@@ -21,7 +21,7 @@ module _ {B V W : Type 0} (S : Setting B V W) where
   Kept k d e = Same m observer M R k d.answer e.answer × Alike d.board e.board
 
   fresh_at : Loaded S (fresh_state M) (fresh_state M)
-  fresh_at = grind (arith, sound.fine_blank, rules.shapes 0)
+  fresh_at = grind (arith, sound.well_formed_blank, rules.shapes 0)
 
   -- one call in each phase
   call : (k : Both W) (p : Phase) (s t : State B) → Allowed m observer M R k → At S p s t → Kept k (does_at M (left k) p s) (does_at M (right k) p t)

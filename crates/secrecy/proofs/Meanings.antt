@@ -5,7 +5,7 @@ use Rattle.verdicts.specs.Verdict.{first}
 use Rattle.levels.specs.Order.{Meaning}
 use Rattle.machine.specs.Machine.{Machine, Kind, plain, forks, calls, rets}
 use Rattle.secrecy.specs.Rows.{Rows, rows_of, cell, places, coded, columns, region_column}
-use Rattle.secrecy.specs.Flow.{deciding, stake}
+use Rattle.secrecy.specs.Flow.{deciding, pc_level}
 use Rattle.secrecy.specs.Rules.{length_rule, held_rule, shape_rule, time_rule, flow_rule, region_rule, edge_rule, return_rule, finish_rule, edges_from, address_rule, address_rules, edge_rules, row_rule, row_rules, rules_of}
 use Rattle.secrecy.specs.Accepted.{Shape, Flows, WordRule, Accepts, RulesFor}
 use Rattle.secrecy.proofs.Says.{Says, says_like, says_rule, says_then, says_first, says_if, says_calls}
@@ -46,11 +46,11 @@ module _ (R : Rows) where
 
   -- an edge that stays in the region, its region level aside
   abbrev Remains : ℕ → ℕ → ℕ → Type 0
-  Remains a b c = (R.meets b ≡ R.meets a) × ((0 < R.remaining b) × (R.remaining a ≡ c + R.remaining b))
+  Remains a b c = (R.join_address b ≡ R.join_address a) × ((0 < R.remaining b) × (R.remaining a ≡ c + R.remaining b))
 
   -- an edge that ends the region
   abbrev Ends : ℕ → ℕ → ℕ → Type 0
-  Ends a b c = (b ≡ R.meets a) × ((R.remaining b ≡ 0) × (R.remaining a ≡ c))
+  Ends a b c = (b ≡ R.join_address a) × ((R.remaining b ≡ 0) × (R.remaining a ≡ c))
 
   -- the time of an edge
   abbrev Timed : ℕ → ℕ → ℕ → Type 0
@@ -59,7 +59,7 @@ module _ (R : Rows) where
 module _ {B V W : Type 0} (m : Meaning) (M : Machine B V W) (R : Rows) where
   -- the region level of an edge that stays
   abbrev Raises : ℕ → ℕ → Type 0
-  Raises a b = 0 < R.remaining a → 0 < R.remaining b → m.flows (stake m M R a) (R.region b) ≡ true
+  Raises a b = 0 < R.remaining a → 0 < R.remaining b → m.flows (pc_level m M R a) (R.region b) ≡ true
 
   -- what is asked of one edge, by whatever word
   abbrev Passes : ℕ → ℕ → ℕ → Type 0
@@ -148,7 +148,7 @@ module _ {B V W : Type 0} (m : Meaning) (M : Machine B V W) (rows : List ℕ) wh
           regions = λ a l. (row a (omega arith)).0 region_column (omega arith);
           shapes = λ a l. (row a (omega arith)).1;
           words = λ a l. word_from m M R a (M.kind a) ((address a l).0, ((address a l).1.0, edge a l));
-          plainly = λ a l. (address a l).1.1;
+          low_outside = λ a l. (address a l).1.1;
         },
       )
 
@@ -159,7 +159,7 @@ module _ {B V W : Type 0} (m : Meaning) (M : Machine B V W) (rows : List ℕ) wh
         h.0,
         (
           (λ row l. (coded_from m M.size rows row (λ p k. r.held row p (omega arith) k) (r.regions row (omega arith)), r.shapes row (omega arith))),
-          ((λ a l. ((word a l).0, ((word a l).1.0, r.plainly a l))), λ a l. (word a l).1.1),
+          ((λ a l. ((word a l).0, ((word a l).1.0, r.low_outside a l))), λ a l. (word a l).1.1),
         ),
       )
 

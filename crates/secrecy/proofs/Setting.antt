@@ -8,7 +8,7 @@ use Rattle.machine.specs.declared.phase.Phase.{Phase}
 use Rattle.machine.specs.declared.phase.Phase.TheVariants as phase
 use Rattle.machine.specs.declared.phase.Ending.{Ending}
 use Rattle.secrecy.specs.Rows.{Rows, places}
-use Rattle.secrecy.specs.Flow.{stake, level_after}
+use Rattle.secrecy.specs.Flow.{pc_level, level_after}
 use Rattle.secrecy.specs.Accepted.{Accepted}
 
 -- an order, an observer, a machine and rows that are accepted for it
@@ -36,9 +36,9 @@ module _ {B V W : Type 0} (S : Setting B V W) where
   abbrev pub Agree : ℕ → B → B → Type 0
   Agree row x y = (p : ℕ) → Seen (R.level row p) → M.holds x p ≡ M.holds y p
 
-  -- a word is dark when its stake is hidden
-  abbrev pub Dark : ℕ → Type 0
-  Dark a = m.flows (stake m M R a) observer ≡ false
+  -- a word is high when its pc_level is hidden
+  abbrev pub High : ℕ → Type 0
+  High a = m.flows (pc_level m M R a) observer ≡ false
 
   -- r is the word after one that calls the function f
   pub record Called (f r : ℕ) : Type 0 where
@@ -57,43 +57,43 @@ module _ {B V W : Type 0} (S : Setting B V W) where
   pub record Good (s : State B) : Type 0 where
     pub listed : s.at < M.size
     pub calls : Calls (R.function s.at) s.returns
-    pub fine : M.fine s.body ≡ true
+    pub well_formed : M.well_formed s.body ≡ true
 
   -- two boards at one address, which agree by a row
-  pub record InStep (row : ℕ) (s t : State B) : Type 0 where
+  pub record LowEquivalent (row : ℕ) (s t : State B) : Type 0 where
     pub at : s.at ≡ t.at
     pub returns : s.returns ≡ t.returns
     pub count : s.count ≡ t.count
     pub agree : Agree row s.body t.body
 
-  -- two boards on dark ways to one address, where they are to arrive at one count, and which agree by that address's row
-  pub record Parted (s t : State B) : Type 0 where
-    pub left : Dark s.at
-    pub right : Dark t.at
-    pub meets : R.meets s.at ≡ R.meets t.at
+  -- two boards on high ways to one address, where they are to arrive at one count, and which agree by that address's row
+  pub record Diverged (s t : State B) : Type 0 where
+    pub left : High s.at
+    pub right : High t.at
+    pub join_address : R.join_address s.at ≡ R.join_address t.at
     pub when : s.count + R.remaining s.at ≡ t.count + R.remaining t.at
     pub returns : s.returns ≡ t.returns
-    pub agree : Agree (R.meets s.at) s.body t.body
+    pub agree : Agree (R.join_address s.at) s.body t.body
 
   -- two boards that are alike while they run
   pub record Near (s t : State B) : Type 0 where
     pub left : Good s
     pub right : Good t
-    pub how : InStep s.at s t ⊎ Parted s t
+    pub how : LowEquivalent s.at s t ⊎ Diverged s t
 
   -- two boards that are alike while they are loaded
   pub record Loaded (s t : State B) : Type 0 where
     pub start : s.at ≡ 0
     pub left : Good s
     pub right : Good t
-    pub step : InStep 0 s t
+    pub step : LowEquivalent 0 s t
 
   -- two boards that are alike in a phase
   abbrev pub At : Phase → State B → State B → Type 0
   At phase.Loading s t = Loaded s t
   At phase.Running s t = Near s t
-  At phase.Ended s t = InStep M.size s t
-  At (phase.Stopped w) s t = InStep s.at s t
+  At phase.Ended s t = LowEquivalent M.size s t
+  At (phase.Stopped w) s t = LowEquivalent s.at s t
 
   -- two boards that are alike after a run
   abbrev pub Rest : Ending → State B → State B → Type 0

@@ -3,9 +3,9 @@ use Rattle.std.proofs.Common.{◌≡◌, ℕ, zero, suc, ◌<◌, ◌≤◌, tru
 use Rattle.std.proofs.lemmas.Bool.{cases_lt}
 use Rattle.machine.specs.Machine.{Kind, plain, forks, Positive, AgreeOn}
 use Rattle.secrecy.specs.Rows.{places}
-use Rattle.secrecy.specs.Flow.{joined, join_of_all, deciding_of, deciding, stake, level_after}
+use Rattle.secrecy.specs.Flow.{joined, join_of_all, deciding_of, deciding, pc_level, level_after}
 use Rattle.secrecy.specs.Accepted.{Edge, Stays, WordRule, Flows}
-use Rattle.secrecy.proofs.Setting.{Setting, Seen, Agree, Dark}
+use Rattle.secrecy.proofs.Setting.{Setting, Seen, Agree, High}
 
 module _ {B V W : Type 0} (S : Setting B V W) where
   open S use {m, laws, M, sound, R, rules, observer, observed, levels, regions, beyond}
@@ -49,18 +49,18 @@ module _ {B V W : Type 0} (S : Setting B V W) where
   region_seen a [] seen = seen
   region_seen a (q ∷ qs) seen = region_seen a qs (parts_seen _ _ (levels a q) (joined_held a qs) seen).1
 
-  pub stake_region : (a : ℕ) → Seen S (stake m M R a) → Seen S (R.region a)
-  stake_region a seen = (parts_seen _ _ (regions a) (deciding_held a (M.kind a)) seen).0
+  pub pc_region : (a : ℕ) → Seen S (pc_level m M R a) → Seen S (R.region a)
+  pc_region a seen = (parts_seen _ _ (regions a) (deciding_held a (M.kind a)) seen).0
 
-  pub stake_deciding : (a : ℕ) → Seen S (stake m M R a) → Seen S (deciding m M R a)
-  stake_deciding a seen = (parts_seen _ _ (regions a) (deciding_held a (M.kind a)) seen).1
+  pub pc_deciding : (a : ℕ) → Seen S (pc_level m M R a) → Seen S (deciding m M R a)
+  pc_deciding a seen = (parts_seen _ _ (regions a) (deciding_held a (M.kind a)) seen).1
 
   -- levels flow at every number, place or not
   flow : (a b : ℕ) → Flows m M R a b → (p : ℕ) → m.flows (level_after m M R a p) (R.level b p) ≡ true
   flow a b flows p = ⊎_elim (flows p) (beyond a b p) (cases_lt p places)
 
   -- one word on two bodies that agree: they agree by each row that its levels flow to
-  pub arrive : (a b : ℕ) (x y : B) → M.fine x ≡ true → M.fine y ≡ true → Agree S a x y → Flows m M R a b → Agree S b (M.effect a x) (M.effect a y)
+  pub arrive : (a b : ℕ) (x y : B) → M.well_formed x ≡ true → M.well_formed y ≡ true → Agree S a x y → Flows m M R a b → Agree S b (M.effect a x) (M.effect a y)
   arrive a b x y fx fy agree flows p seen =
       let before = down _ _ (flow a b flows p) seen in
       grind (arith, sound.local a p x y fx fy, sources_agree a x y agree (M.sources a p), sound.kept a p x, sound.kept a p y, agree p)
@@ -72,36 +72,36 @@ module _ {B V W : Type 0} (S : Setting B V W) where
   abbrev Untouched : ℕ → ℕ → Type 0
   Untouched a p = (M.writes a p ≡ false) × Seen S (R.level a p)
 
-  -- a dark word writes no place that is seen after it
-  quiet : (a b p : ℕ) → Dark S a → Flows m M R a b → Seen S (R.level b p) → Untouched a p
-  quiet a b p dark flows seen = let before = down _ _ (flow a b flows p) seen in grind (arith, region_seen a (M.sources a p), writer a p)
+  -- a high word writes no place that is seen after it
+  quiet : (a b p : ℕ) → High S a → Flows m M R a b → Seen S (R.level b p) → Untouched a p
+  quiet a b p high flows seen = let before = down _ _ (flow a b flows p) seen in grind (arith, region_seen a (M.sources a p), writer a p)
 
-  -- an edge that stays in a dark region leads to a dark word
-  pub stays_dark : (a b c : ℕ) → Dark S a → Stays m M R a b c → Dark S b
-  stays_dark a b c dark t = grind (arith, stake_region b, down (stake m M R a) (R.region b) t.region)
+  -- an edge that stays in a high region leads to a high word
+  pub stays_high : (a b c : ℕ) → High S a → Stays m M R a b c → High S b
+  stays_high a b c high t = grind (arith, pc_region b, down (pc_level m M R a) (R.region b) t.region)
 
-  -- dark words are inside
-  pub dark_inside : (a : ℕ) → a < M.size → Dark S a → 0 < R.remaining a
-  dark_inside a l dark = grind arith
+  -- high words are inside
+  pub high_inside : (a : ℕ) → a < M.size → High S a → 0 < R.remaining a
+  high_inside a l high = grind arith
 
-  -- what is seen by the row of the join address is seen on the dark way to it, and not written there
+  -- what is seen by the row of the join address is seen on the high way to it, and not written there
   abbrev pub Early : ℕ → Type 0
-  Early a = (p : ℕ) → Seen S (R.level (R.meets a) p) → Untouched a p
+  Early a = (p : ℕ) → Seen S (R.level (R.join_address a) p) → Untouched a p
 
-  early_edge : (a b c n : ℕ) → 0 < c → a < M.size → Dark S a → R.remaining a ≤ suc n → Edge m M R a b c →
-      (b < M.size → Dark S b → R.remaining b ≤ n → Early b) → Early a
-  early_edge a b c n pos l dark le edge later p seen =
-      grind (arith, edge.timed (dark_inside a l dark), quiet a b p dark edge.levels, later edge.listed, stays_dark a b c dark)
+  early_edge : (a b c n : ℕ) → 0 < c → a < M.size → High S a → R.remaining a ≤ suc n → Edge m M R a b c →
+      (b < M.size → High S b → R.remaining b ≤ n → Early b) → Early a
+  early_edge a b c n pos l high le edge later p seen =
+      grind (arith, edge.timed (high_inside a l high), quiet a b p high edge.levels, later edge.listed, stays_high a b c high)
 
-  early_by : (n a : ℕ) (k : Kind) → WordRule m M R a k → Positive k → a < M.size → Dark S a → R.remaining a ≤ suc n →
-      ((b : ℕ) → b < M.size → Dark S b → R.remaining b ≤ n → Early b) → Early a
-  early_by n a (plain b c) rule pos l dark le later = early_edge a b c n pos l dark le rule (later b)
-  early_by n a (forks qs b c b' c') rule pos l dark le later = early_edge a b c n pos.0 l dark le rule.0 (later b)
-  early_by n a k rule pos l dark le later = let h = dark_inside a l dark in grind arith
+  early_by : (n a : ℕ) (k : Kind) → WordRule m M R a k → Positive k → a < M.size → High S a → R.remaining a ≤ suc n →
+      ((b : ℕ) → b < M.size → High S b → R.remaining b ≤ n → Early b) → Early a
+  early_by n a (plain b c) rule pos l high le later = early_edge a b c n pos l high le rule (later b)
+  early_by n a (forks qs b c b' c') rule pos l high le later = early_edge a b c n pos.0 l high le rule.0 (later b)
+  early_by n a k rule pos l high le later = let h = high_inside a l high in grind arith
 
-  early_all : (n a : ℕ) → a < M.size → Dark S a → R.remaining a ≤ n → Early a
-  early_all zero a l dark le = absurd (omega (arith, dark_inside a l dark))
-  early_all (suc n) a l dark le = early_by n a (M.kind a) (rules.words a l) (sound.positive a) l dark le (early_all n)
+  early_all : (n a : ℕ) → a < M.size → High S a → R.remaining a ≤ n → Early a
+  early_all zero a l high le = absurd (omega (arith, high_inside a l high))
+  early_all (suc n) a l high le = early_by n a (M.kind a) (rules.words a l) (sound.positive a) l high le (early_all n)
 
-  pub early : (a : ℕ) → a < M.size → Dark S a → Early a
-  early a l dark = early_all (R.remaining a) a l dark (omega arith)
+  pub early : (a : ℕ) → a < M.size → High S a → Early a
+  early a l high = early_all (R.remaining a) a l high (omega arith)

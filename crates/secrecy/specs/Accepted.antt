@@ -4,30 +4,30 @@ use Rattle.verdicts.specs.Verdict.{fine}
 use Rattle.levels.specs.Order.{Meaning}
 use Rattle.machine.specs.Machine.{Machine, Kind, plain, forks, calls, rets}
 use Rattle.secrecy.specs.Rows.{Rows, rows_of, places, columns}
-use Rattle.secrecy.specs.Flow.{deciding, stake, level_after}
+use Rattle.secrecy.specs.Flow.{deciding, pc_level, level_after}
 use Rattle.secrecy.specs.Rules.{rules_of}
 
 -- the shape of a row, for a listing of n words
 pub record Shape (n : ℕ) (R : Rows) (row : ℕ) : Type 0 where
-  pub outside : R.remaining row ≡ 0 → (R.region row ≡ 0) × (R.meets row ≡ 0)
-  pub inside : 0 < R.remaining row → R.meets row < n
+  pub outside : R.remaining row ≡ 0 → (R.region row ≡ 0) × (R.join_address row ≡ 0)
+  pub inside : 0 < R.remaining row → R.join_address row < n
   pub listed : R.function row < n
   pub begin : row ≡ 0 → R.function row ≡ 0
-  pub finish : row ≡ n → (R.region row ≡ 0) × (R.meets row ≡ 0) × (R.remaining row ≡ 0) × (R.function row ≡ 0)
+  pub finish : row ≡ n → (R.region row ≡ 0) × (R.join_address row ≡ 0) × (R.remaining row ≡ 0) × (R.function row ≡ 0)
 
 -- an edge from inside that ends the region, in c cycles
 pub record Leaves (R : Rows) (a b c : ℕ) : Type 0 where
-  pub there : b ≡ R.meets a
+  pub there : b ≡ R.join_address a
   pub outside : R.remaining b ≡ 0
   pub all : R.remaining a ≡ c
 
 module _ {B V W : Type 0} (m : Meaning) (M : Machine B V W) (R : Rows) where
   -- an edge from inside that stays in the region
   pub record Stays (a b c : ℕ) : Type 0 where
-    pub same : R.meets b ≡ R.meets a
+    pub same : R.join_address b ≡ R.join_address a
     pub inside : 0 < R.remaining b
     pub less : R.remaining a ≡ c + R.remaining b
-    pub region : m.flows (stake m M R a) (R.region b) ≡ true
+    pub region : m.flows (pc_level m M R a) (R.region b) ≡ true
 
   -- every level after the word at a flows to the level in row b
   abbrev pub Flows : ℕ → ℕ → Type 0
@@ -71,7 +71,7 @@ module _ {B V W : Type 0} (m : Meaning) (M : Machine B V W) (R : Rows) where
     -- every word keeps to the rows
     pub words : (a : ℕ) → a < M.size → WordRule a (M.kind a)
     -- outside every region nothing above level 0 decides
-    pub plainly : (a : ℕ) → a < M.size → R.remaining a ≡ 0 → deciding m M R a ≡ 0
+    pub low_outside : (a : ℕ) → a < M.size → R.remaining a ≡ 0 → deciding m M R a ≡ 0
 
 -- a list of numbers that is accepted: it has the length of all the rows, and they are accepted
 abbrev pub Accepts : {B V W : Type 0} → Meaning → Machine B V W → List ℕ → Type 0

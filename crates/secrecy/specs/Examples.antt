@@ -28,7 +28,7 @@ toy kinds written =
       decides = λ a x. false;
       holds = λ x p. x p;
       blank = λ p. 0;
-      fine = λ x. true;
+      well_formed = λ x. true;
       place = λ w. w;
       valid = λ w. nat_lt w places;
       put = λ w n x. x;
@@ -42,7 +42,7 @@ secret_at (p ∷ ps) = slice_set (secret_at ps) p 1
 
 -- a row of this kind
 abbrev pub row : List ℕ → ℕ → ℕ → ℕ → ℕ → List ℕ
-row secrets region meets remaining function = secret_at secrets ++ (region ∷ (meets ∷ (remaining ∷ (function ∷ []))))
+row secrets region join_address remaining function = secret_at secrets ++ (region ∷ (join_address ∷ (remaining ∷ (function ∷ []))))
 
 -- Two arms of two cycles: a comparison sets the flags from register 16, then Z decides whether the third word is passed over.
 abbrev pub arms : (ℕ → List ℕ) → Machine (ℕ → ℕ) ℕ ℕ

@@ -29,8 +29,8 @@ module _ {B V W : Type 0} (m : Meaning) (M : Machine B V W) (R : Rows) where
   deciding a = deciding_of m (R.level a) (M.kind a)
 
   -- the region level joined with the deciding level: the level of knowing which way is taken from here
-  abbrev pub stake : ℕ → ℕ
-  stake a = m.join (R.region a) (deciding a)
+  abbrev pub pc_level : ℕ → ℕ
+  pc_level a = m.join (R.region a) (deciding a)
 
   -- The level of a place after the word at an address. A written place has the region level joined with the level of each
   -- place that its value comes from, and any other place the level that it had.

@@ -16,7 +16,7 @@ pub record Hides {B V W : Type 0} (m : Meaning) (M : Machine B V W) (R : Rows) :
   -- the limits and whatever secrets are put
   pub couples : (observer : ℕ) → m.held observer ≡ true → (ks : List (Both W)) → AllAllowed m observer M R ks → SameAnswers m observer M R ks (fresh M) (fresh M)
   -- Regions: from any state inside a region the words up to the join address take the remaining cycles, by every way
-  pub regions : (s : State B) → s.at < M.size → 0 < R.remaining s.at → Takes M (R.meets s.at) s (R.remaining s.at)
+  pub regions : (s : State B) → s.at < M.size → 0 < R.remaining s.at → Takes M (R.join_address s.at) s (R.remaining s.at)
 
 -- no word writes anything but the places that rows give a level to
 abbrev pub Placed : {B V W : Type 0} → Machine B V W → Type 0

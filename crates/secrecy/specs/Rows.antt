@@ -13,8 +13,8 @@ abbrev pub region_column : ℕ
 region_column = 35
 
 -- the join address
-abbrev pub meets_column : ℕ
-meets_column = 36
+abbrev pub join_column : ℕ
+join_column = 36
 
 -- what remains
 abbrev pub remaining_column : ℕ
@@ -43,7 +43,7 @@ pub record Rows : Type 0 where
   -- the level of whatever decided that this word is carried out
   pub region : ℕ → ℕ
   -- the join address of the region
-  pub meets : ℕ → ℕ
+  pub join_address : ℕ → ℕ
   -- the cycles from here to the join address; an address is inside a region if they are above 0
   pub remaining : ℕ → ℕ
   -- the function that the word belongs to
@@ -55,7 +55,7 @@ rows_of n rows =
     record {
       level = λ row place. cond (nat_lt place places) (cell n rows row place) 0;
       region = λ row. cell n rows row region_column;
-      meets = λ row. cell n rows row meets_column;
+      join_address = λ row. cell n rows row join_column;
       remaining = λ row. cell n rows row remaining_column;
       function = λ row. cell n rows row function_column;
     }

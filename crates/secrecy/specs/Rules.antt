@@ -6,7 +6,7 @@ use Rattle.verdicts.specs.Verdict.{Verdict, fine, and_then, rule, first}
 use Rattle.levels.specs.Order.{Meaning}
 use Rattle.machine.specs.Machine.{Machine, Kind, plain, forks, calls, rets}
 use Rattle.secrecy.specs.Rows.{Rows, rows_of, cell, places, region_column, coded, columns}
-use Rattle.secrecy.specs.Flow.{deciding, stake, level_after}
+use Rattle.secrecy.specs.Flow.{deciding, pc_level, level_after}
 
 -- a check that is made only where a test holds
 abbrev pub only_if : Bool → Verdict → Verdict
@@ -46,11 +46,11 @@ held_rule m n rows row column = rule (m.held (cell n rows row column)) 4 (row �
 module _ (n : ℕ) (R : Rows) where
   -- outside every region there is neither a region level nor a join address
   abbrev pub bare_outside : ℕ → Bool
-  bare_outside row = inside R row || (R.region row == 0 && R.meets row == 0)
+  bare_outside row = inside R row || (R.region row == 0 && R.join_address row == 0)
 
   -- inside one the join address is in the listing
   abbrev pub joins_in_listing : ℕ → Bool
-  joins_in_listing row = outside R row || nat_lt (R.meets row) n
+  joins_in_listing row = outside R row || nat_lt (R.join_address row) n
 
   -- the function is an address of the listing
   abbrev pub function_in_listing : ℕ → Bool
@@ -62,7 +62,7 @@ module _ (n : ℕ) (R : Rows) where
 
   -- the finish row has levels and nothing else
   abbrev pub bare_finish : ℕ → Bool
-  bare_finish row = nat_lt row n || ((R.region row == 0 && R.meets row == 0) && (outside R row && R.function row == 0))
+  bare_finish row = nat_lt row n || ((R.region row == 0 && R.join_address row == 0) && (outside R row && R.function row == 0))
 
   abbrev pub shaped : ℕ → Bool
   shaped row = bare_outside row && (joins_in_listing row && (function_in_listing row && (begins_at_zero row && bare_finish row)))
@@ -87,11 +87,11 @@ module _ (n : ℕ) (R : Rows) where
 
 -- an edge of c cycles from inside that ends the region: it reaches the join address, which is outside, just in time
 abbrev pub leaves : Rows → ℕ → ℕ → ℕ → Bool
-leaves R a b c = b == R.meets a && (outside R b && R.remaining a == c)
+leaves R a b c = b == R.join_address a && (outside R b && R.remaining a == c)
 
 -- an edge of c cycles from inside that stays in the region: to a row with the same join address, with so much less remaining
 abbrev pub stays : Rows → ℕ → ℕ → ℕ → Bool
-stays R a b c = R.meets b == R.meets a && (inside R b && R.remaining a == c + R.remaining b)
+stays R a b c = R.join_address b == R.join_address a && (inside R b && R.remaining a == c + R.remaining b)
 
 -- 9: an edge from inside ends the region in time, or stays in it
 abbrev pub time_rule : Rows → ℕ → ℕ → ℕ → Verdict
@@ -115,10 +115,10 @@ module _ {B V W : Type 0} (m : Meaning) (M : Machine B V W) (R : Rows) where
   abbrev pub flow_rule : ℕ → ℕ → ℕ → Verdict
   flow_rule a b p = rule (m.flows (level_after m M R a p) (R.level b p)) 10 (a ∷ (b ∷ (p ∷ [])))
 
-  -- 10, with the column of the region level where a place is carried: on an edge from inside to inside the stake flows to the
+  -- 10, with the column of the region level where a place is carried: on an edge from inside to inside the pc_level flows to the
   -- region level of the next row
   abbrev pub region_rule : ℕ → ℕ → Verdict
-  region_rule a b = rule (outside R a || (outside R b || m.flows (stake m M R a) (R.region b))) 10 (a ∷ (b ∷ (region_column ∷ [])))
+  region_rule a b = rule (outside R a || (outside R b || m.flows (pc_level m M R a) (R.region b))) 10 (a ∷ (b ∷ (region_column ∷ [])))
 
   -- one edge: first its time, then its levels, place by place
   abbrev pub edge_rule : ℕ → ℕ → ℕ → Verdict

@@ -4,11 +4,11 @@ ghost use Rattle.alu.specs.Arithmetic.{logic_of};
 ghost use Rattle.avr.specs.Core.{core, pair_of};
 ghost use Rattle.avr.specs.Effects.{stored, stored_pair, movw_effect};
 ghost use Rattle.board.specs.Cores.{bare};
-ghost use Rattle.cells.specs.Works.{OperandFits, ByteFits, PairFits, operand_of, back, joined_effect, lone_effect, byte_effect, pair_effect};
+ghost use Rattle.cells.specs.Works.{OperandFits, ByteFits, PairFits, operand_of, back, binary_effect, unary_effect, byte_effect, pair_effect};
 
 use alu::arithmetic;
 use alu::output::{ByteOutput, Output, WordOutput};
-use cells::work::{ByteWork, Joining, Logic, Lone, Operand, PairWork, Quiet};
+use cells::work::{Binary, ByteWork, Logic, Nullary, Operand, PairWork, Unary};
 
 /// The chip's own: 32 registers and the flags.
 #[derive(Clone, Copy)]
@@ -97,17 +97,17 @@ impl Registers {
     }
 
     /// An operation on the register d and the byte b.
-    fn join(&mut self, joining: Joining, d: u8, b: u8)
+    fn combine(&mut self, operation: Binary, d: u8, b: u8)
         requires { d < 32 }
-        ensures { bare self.new ≡ joined_effect joining d b (bare self.old) }
+        ensures { bare self.new ≡ binary_effect operation d b (bare self.old) }
     {
         let a = self.bytes[d as usize];
-        match joining {
-            Joining::Sum { with_carry } => self.store(
+        match operation {
+            Binary::Sum { with_carry } => self.store(
                 d,
                 arithmetic::sum(a, b, with_carry & self.carry),
             ),
-            Joining::Difference { with_carry, kept } => {
+            Binary::Difference { with_carry, kept } => {
                 let output = arithmetic::difference(
                     a,
                     b,
@@ -120,25 +120,25 @@ impl Registers {
                     self.compare(output);
                 }
             }
-            Joining::Logic(Logic::And) => self.keep(d, a & b),
-            Joining::Logic(Logic::Eor) => self.keep(d, a ^ b),
-            Joining::Logic(Logic::Or) => self.keep(d, a | b),
+            Binary::Logic(Logic::And) => self.keep(d, a & b),
+            Binary::Logic(Logic::Eor) => self.keep(d, a ^ b),
+            Binary::Logic(Logic::Or) => self.keep(d, a | b),
         }
     }
 
     /// An operation on the register d alone.
-    fn alone(&mut self, lone: Lone, d: u8)
+    fn change(&mut self, operation: Unary, d: u8)
         requires { d < 32 }
-        ensures { bare self.new ≡ lone_effect lone d (bare self.old) }
+        ensures { bare self.new ≡ unary_effect operation d (bare self.old) }
     {
         let a = self.bytes[d as usize];
-        match lone {
-            Lone::Count(n) => self.keep(d, a.wrapping_add(n)),
-            Lone::Shift { through } => {
+        match operation {
+            Unary::Count(n) => self.keep(d, a.wrapping_add(n)),
+            Unary::Shift { through } => {
                 self.keep(d, 128 * u8::from(through & self.carry) + a / 2);
                 self.carry = a % 2 == 1;
             }
-            Lone::Negate => self.store(d, arithmetic::difference(0, a, false, true)),
+            Unary::Negate => self.store(d, arithmetic::difference(0, a, false, true)),
         }
     }
 
@@ -148,8 +148,12 @@ impl Registers {
         ensures { bare self.new ≡ byte_effect work d (bare self.old) }
     {
         match work {
-            ByteWork::Joined(joining, operand) => self.join(joining, d, self.operand(operand)),
-            ByteWork::Lone(lone) => self.alone(lone, d),
+            ByteWork::Binary(operation, operand) => self.combine(
+                operation,
+                d,
+                self.operand(operand),
+            ),
+            ByteWork::Unary(operation) => self.change(operation, d),
             ByteWork::Copied(operand) => self.bytes[d as usize] = self.operand(operand),
         }
     }
@@ -179,9 +183,9 @@ impl Registers {
                 0,
                 arithmetic::product(self.bytes[d as usize], self.bytes[r as usize]),
             ),
-            PairWork::Quiet(Quiet::Movw { d, r }) => self.copy_pair(d, r),
-            PairWork::Quiet(Quiet::Clc) => self.carry = false,
-            PairWork::Quiet(Quiet::Nop) => {}
+            PairWork::Nullary(Nullary::Movw { d, r }) => self.copy_pair(d, r),
+            PairWork::Nullary(Nullary::Clc) => self.carry = false,
+            PairWork::Nullary(Nullary::Nop) => {}
         }
     }
 }

@@ -1,37 +1,37 @@
 //! Sorting instructions into works.
 ghost use Rattle.std.specs.Prelude.{◌≡◌};
-ghost use Rattle.cells.specs.declared.work.Joining.TheVariants.{Difference};
-ghost use Rattle.cells.specs.Works.{joined as joined_of, quiet as quiet_of, access as access_of, product_work, binary_work, unary_work, reach_of, work_of};
+ghost use Rattle.cells.specs.declared.work.Binary.TheVariants.{Difference};
+ghost use Rattle.cells.specs.Works.{two_operands as two_operands_of, nullary_work as nullary_work_of, access as access_of, product_work, binary_work, unary_work, reach_of, work_of};
 
 use crate::work::{
-    Access, ByteWork, Joining, Logic, Lone, Operand, PairWork, Quiet, Reach, Step, Work,
+    Access, Binary, ByteWork, Logic, Nullary, Operand, PairWork, Reach, Step, Unary, Work,
 };
 use alu::arithmetic::counterpart;
 use avr::pointer::Pointer;
 use words::instruction::{BinaryOp, Instruction, Mode, UnaryOp};
 
 /// An operation on the register d and a second byte.
-fn joined(d: u8, joining: Joining, operand: Operand) -> Work
-    ensures { result ≡ joined_of d joining operand }
+fn two_operands(d: u8, operation: Binary, operand: Operand) -> Work
+    ensures { result ≡ two_operands_of d operation operand }
 {
     Work::Byte {
         d,
-        work: ByteWork::Joined(joining, operand),
+        work: ByteWork::Binary(operation, operand),
     }
 }
 
 /// A difference, with the borrow before or without, that is kept or only compared.
 fn difference(d: u8, with_carry: bool, kept: bool, operand: Operand) -> Work
-    ensures { result ≡ joined_of d (Difference with_carry kept) operand }
+    ensures { result ≡ two_operands_of d (Difference with_carry kept) operand }
 {
-    joined(d, Joining::Difference { with_carry, kept }, operand)
+    two_operands(d, Binary::Difference { with_carry, kept }, operand)
 }
 
 /// What touches the carry at most.
-fn quiet(what: Quiet) -> Work
-    ensures { result ≡ quiet_of what }
+fn nullary_work(what: Nullary) -> Work
+    ensures { result ≡ nullary_work_of what }
 {
-    Work::Pair(PairWork::Quiet(what))
+    Work::Pair(PairWork::Nullary(what))
 }
 
 /// The work of mul, which takes no constant.
@@ -40,25 +40,25 @@ fn product(d: u8, operand: Operand) -> Work
 {
     match operand {
         Operand::Register(r) => Work::Pair(PairWork::Mul { d, r }),
-        Operand::Constant(_) => quiet(Quiet::Nop),
+        Operand::Constant(_) => nullary_work(Nullary::Nop),
     }
 }
 
 /// The work of an operation on the register d and a second byte; cpse changes nothing.
-fn binary(op: BinaryOp, d: u8, operand: Operand) -> Work
+fn work_on_two(op: BinaryOp, d: u8, operand: Operand) -> Work
     ensures { result ≡ binary_work op d operand }
 {
     match op {
         BinaryOp::Cpc => difference(d, true, false, operand),
         BinaryOp::Sbc => difference(d, true, true, operand),
-        BinaryOp::Add => joined(d, Joining::Sum { with_carry: false }, operand),
-        BinaryOp::Cpse => quiet(Quiet::Nop),
+        BinaryOp::Add => two_operands(d, Binary::Sum { with_carry: false }, operand),
+        BinaryOp::Cpse => nullary_work(Nullary::Nop),
         BinaryOp::Cp => difference(d, false, false, operand),
         BinaryOp::Sub => difference(d, false, true, operand),
-        BinaryOp::Adc => joined(d, Joining::Sum { with_carry: true }, operand),
-        BinaryOp::And => joined(d, Joining::Logic(Logic::And), operand),
-        BinaryOp::Eor => joined(d, Joining::Logic(Logic::Eor), operand),
-        BinaryOp::Or => joined(d, Joining::Logic(Logic::Or), operand),
+        BinaryOp::Adc => two_operands(d, Binary::Sum { with_carry: true }, operand),
+        BinaryOp::And => two_operands(d, Binary::Logic(Logic::And), operand),
+        BinaryOp::Eor => two_operands(d, Binary::Logic(Logic::Eor), operand),
+        BinaryOp::Or => two_operands(d, Binary::Logic(Logic::Or), operand),
         BinaryOp::Mov => Work::Byte {
             d,
             work: ByteWork::Copied(operand),
@@ -69,15 +69,15 @@ fn binary(op: BinaryOp, d: u8, operand: Operand) -> Work
 
 /// The work of an operation on one register.
 // Kept a function, as `reach` below: a From would offer to all crates what is a step of the one From of this file.
-fn unary(op: UnaryOp) -> Lone
+fn work_on_one(op: UnaryOp) -> Unary
     ensures { result ≡ unary_work op }
 {
     match op {
-        UnaryOp::Neg => Lone::Negate,
-        UnaryOp::Inc => Lone::Count(1),
-        UnaryOp::Lsr => Lone::Shift { through: false },
-        UnaryOp::Ror => Lone::Shift { through: true },
-        UnaryOp::Dec => Lone::Count(255),
+        UnaryOp::Neg => Unary::Negate,
+        UnaryOp::Inc => Unary::Count(1),
+        UnaryOp::Lsr => Unary::Shift { through: false },
+        UnaryOp::Ror => Unary::Shift { through: true },
+        UnaryOp::Dec => Unary::Count(255),
     }
 }
 
@@ -110,13 +110,17 @@ impl From<Instruction> for Work {
 
     fn from(instruction: Instruction) -> Work {
         match instruction {
-            Instruction::Binary { op, d, r } => binary(op, d, Operand::Register(r)),
-            Instruction::Immediate { op, d, k } => binary(counterpart(op), d, Operand::Constant(k)),
+            Instruction::Binary { op, d, r } => work_on_two(op, d, Operand::Register(r)),
+            Instruction::Immediate { op, d, k } => work_on_two(
+                counterpart(op),
+                d,
+                Operand::Constant(k),
+            ),
             Instruction::Wide { op, d, k } => Work::Pair(PairWork::Wide { op, d, k }),
-            Instruction::Movw { d, r } => quiet(Quiet::Movw { d, r }),
+            Instruction::Movw { d, r } => nullary_work(Nullary::Movw { d, r }),
             Instruction::Unary { op, d } => Work::Byte {
                 d,
-                work: ByteWork::Lone(unary(op)),
+                work: ByteWork::Unary(work_on_one(op)),
             },
             Instruction::Load { mode, d } => access(false, d, mode.pointer(), reach(mode)),
             Instruction::Store { mode, r } => access(true, r, mode.pointer(), reach(mode)),
@@ -132,8 +136,8 @@ impl From<Instruction> for Work {
                 base.pointer(),
                 Reach::Displaced(q),
             ),
-            Instruction::Clc => quiet(Quiet::Clc),
-            _ => quiet(Quiet::Nop),
+            Instruction::Clc => nullary_work(Nullary::Clc),
+            _ => nullary_work(Nullary::Nop),
         }
     }
 }

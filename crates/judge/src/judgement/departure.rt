@@ -9,12 +9,12 @@ use row_layout::PLACES;
 pub const LEVELS: usize = PLACES as usize;
 
 /// What the word at an address leaves behind, worked out once for all its edges: the level of each place after it, and its
-/// stake, the level of knowing which way is taken from there.
+/// pc_level, the level of knowing which way is taken from there.
 #[derive(Drop)]
 pub struct Departure<'j, O: Order> {
     pub judgement: &'j Judgement<'j, O>,
     pub at: u16,
     pub levels: [u16; LEVELS],
-    pub stake: u16,
-    ghost departs: { Departs (O.Order.meaning judgement.now.order.now) judgement.now.routine at levels stake },
+    pub pc_level: u16,
+    ghost departs: { Departs (O.Order.meaning judgement.now.order.now) judgement.now.routine at levels pc_level },
 }

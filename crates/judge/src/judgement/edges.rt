@@ -40,7 +40,7 @@ impl<O: Order> Departure<'_, O> {
         Ok(())
     }
 
-    /// Whether, on an edge from inside a region to inside one, the stake flows to the region level of the next row.
+    /// Whether, on an edge from inside a region to inside one, the pc_level flows to the region level of the next row.
     fn check_region(&self, next: u32) -> Result<(), FlowFault>
         ensures { says flow_refusal result ≡ region_rule (O.Order.meaning self.now.judgement.now.order.now) (chip self.now.judgement.now.routine) (seen self.now.judgement.now.routine) self.now.at next }
     {
@@ -49,7 +49,7 @@ impl<O: Order> Departure<'_, O> {
             || judgement.is_outside(next)
             || judgement
                 .order
-                .flows(self.stake, judgement.routine.region(next))
+                .flows(self.pc_level, judgement.routine.region(next))
         {
             Ok(())
         } else {

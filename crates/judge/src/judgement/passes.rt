@@ -45,7 +45,7 @@ impl<O: Order> Judgement<'_, O> {
             judgement: self,
             at,
             levels: self.levels_after(at, instruction),
-            stake: self.order.join(
+            pc_level: self.order.join(
                 self.routine.region(u32::from(at)),
                 self.deciding(at, instruction),
             ),

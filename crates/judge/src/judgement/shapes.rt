@@ -28,9 +28,9 @@ impl<O: Order> Judgement<'_, O> {
 
     /// Whether a row has neither a region level nor a join address.
     fn is_bare(&self, row: u32) -> bool
-        ensures { result ≡ ((seen self.now.routine).region row == 0 && (seen self.now.routine).meets row == 0) }
+        ensures { result ≡ ((seen self.now.routine).region row == 0 && (seen self.now.routine).join_address row == 0) }
     {
-        self.routine.region(row) == 0 && self.routine.meets(row) == 0
+        self.routine.region(row) == 0 && self.routine.join_address(row) == 0
     }
 
     /// Whether a row, if it is outside every region, is bare.
@@ -44,7 +44,7 @@ impl<O: Order> Judgement<'_, O> {
     fn joins_listed(&self, row: u32) -> bool
         ensures { result ≡ joins_in_listing (length self.now.routine.words.now) (seen self.now.routine) row }
     {
-        self.is_outside(row) || self.routine.meets(row) < self.len()
+        self.is_outside(row) || self.routine.join_address(row) < self.len()
     }
 
     /// Whether the function of a row is an address of the listing.
