@@ -1,4 +1,5 @@
 pub mod Cores
 pub mod Steps
 pub mod States
+pub mod Loans
 pub mod Faults

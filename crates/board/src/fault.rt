@@ -15,6 +15,13 @@ pub enum MakingFault {
     Memory,
 }
 
+/// Why a board cannot be made, with the bytes that it was to have, handed back.
+#[derive(Drop)]
+pub struct Unmade<'m> {
+    pub fault: MakingFault,
+    pub bytes: &'m mut [u8],
+}
+
 /// Why a call on a board is refused; each fault is its number in the table of refusals.
 #[derive(Clone, Copy, PartialEq, Eq)]
 pub enum CallFault {

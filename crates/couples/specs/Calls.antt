@@ -5,11 +5,14 @@ use Rattle.avr.specs.declared.location.Location.{Location}
 use Rattle.avr.specs.Core.{Core}
 use Rattle.avr.specs.Chip.{avr}
 use Rattle.secrecy.specs.Couples.{Both, clears, runs, reads, puts, left, right}
+use Rattle.verdicts.specs.Verdict.{Refusal}
 use Rattle.board.specs.declared.board.Board.{Board}
+use Rattle.board.specs.Faults.{making_refusal}
 use Rattle.board.specs.States.{board_of, words_of, after}
 use Rattle.couples.specs.declared.answers.Answers.{Answers}
 use Rattle.avr.specs.declared.calls.Call.{Call}
 use Rattle.avr.specs.declared.calls.Call.TheVariants.{Clear, Put, Run, Read}
+use Rattle.couples.specs.declared.fault.Unmade.{Unmade}
 use Rattle.couples.specs.declared.working.Couple.{Couple}
 use Rattle.couples.specs.Answers.{answer_of}
 
@@ -32,3 +35,7 @@ pub record Answered (call : Call) (b c b' c' : Board) (answers : Answers) : Type
 -- what the two boards of a couple stand for, the left one first
 abbrev pub sides : Couple → calls.Board Core × calls.Board Core
 sides c = (board_of c.left, board_of c.right)
+
+-- the refusal that a making that hands its bytes back stands for
+abbrev pub unmade_refusal : Unmade → Refusal
+unmade_refusal u = making_refusal u.fault

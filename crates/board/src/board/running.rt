@@ -3,7 +3,7 @@ ghost use Rattle.std.specs.Prelude.{◌≡◌, ◌+◌, true, false, length, nat
 ghost use Rattle.std.specs.ControlFlow.{MatchControlFlow};
 ghost use Rattle.machine.specs.declared.phase.Ending.TheVariants.{Spent};
 ghost use Rattle.machine.specs.Run.{landed, step as step_of, Runs};
-ghost use Rattle.machine.specs.Laws.{Counts};
+ghost use Rattle.machine.specs.Laws.{RunCounts, CountsLives};
 ghost use Rattle.machine.specs.Calls.{ends, does, run as run_call};
 ghost use Rattle.avr.specs.Chip.{instruction_of, avr};
 ghost use Rattle.cells.specs.declared.cell.Leave.TheVariants.{Jump, Call, Return};
@@ -174,7 +174,8 @@ impl Board<'_, '_> {
     pub fn run(&mut self, limit: u32) -> Ending
         ensures state { after self.new (ends result) ≡ does (avr (words_of self.old)) (run_call limit) (board_of self.old) }
         ensures same { Lent self.old self.new }
-        ensures counts { Counts (avr (words_of self.old)) limit (state_of self.old) }
+        ensures counts { RunCounts (avr (words_of self.old)) limit (board_of self.old) (board_of self.new) result }
+        ensures lives { CountsLives (avr (words_of self.old)) }
     {
         self.carry_on(limit)
     }
