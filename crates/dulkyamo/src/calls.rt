@@ -2,7 +2,7 @@
 use avr::location::Location;
 use board::fault::CallFault;
 use couples::answers::{Answer, Answers};
-use couples::working::{Call, Couple};
+use couples::working::Call;
 use std::{fmt, io};
 
 /// A place as routine files write it.
@@ -98,13 +98,8 @@ impl fmt::Display for Outcome {
     }
 }
 
-/// Works a call on both boards, and prints what it came to.
-pub(crate) fn work_call(
-    rt: &HostRuntime,
-    call: Call,
-    couple: &mut Couple<'_, '_, '_>,
-) -> io::Result<()> {
-    let answers = couple.work(call);
+/// Prints a call and what both boards answered to it.
+pub(crate) fn print_outcome(rt: &HostRuntime, call: Call, answers: Answers) -> io::Result<()> {
     let written = Written(call);
     let outcome = Outcome { call, answers };
     println!(rt; "{written}: {outcome}")
