@@ -64,7 +64,6 @@ pub enum Reach {
 }
 
 /// A load of a register, or a store of it, by the pointer whose low byte is in the register `pointer`.
-// `store` is kept a bool: an enum of Load and Store would say no more, and a place that asks has the same two ways.
 #[derive(Clone, Copy)]
 pub struct Access {
     pub store: bool,

@@ -8,7 +8,7 @@ abbrev pub places : ℕ
 places = 35
 
 -- the columns after those: the region level, the address at which the ways of the region come together, the cycles that
--- remain until then, and the function, which goes by the address of its first word
+-- remain until then, and the function, named by where it begins
 abbrev pub region_column : ℕ
 region_column = 35
 
@@ -44,7 +44,7 @@ pub record Rows : Type 0 where
   pub region : ℕ → ℕ
   -- the join address of the region
   pub join_address : ℕ → ℕ
-  -- the cycles from here to the join address; an address is inside a region if they are above 0
+  -- the cycles from here to the join address; outside every region they are 0
   pub remaining : ℕ → ℕ
   -- the function that the word belongs to
   pub function : ℕ → ℕ

@@ -37,7 +37,7 @@ fn cells_of(words: &[u16]) -> [Cell; 1024]
 }
 
 impl<'w, 'm> Board<'w, 'm> {
-    // The project asks for a making that cannot refuse, after a check that may: `new` after `check`.
+    // A pair, for callers that check first: what follows an accepted check is no `Result`.
     /// Whether a board can be made of words and lent bytes. Nothing is changed.
     pub fn check(words: &[u16], memory: &[u8]) -> Result<(), MakingFault>
         ensures { says making_refusal result ≡ making_of words.now memory.now }
