@@ -1,7 +1,7 @@
 //! Works: what the words that go on to the next address do, sorted by how it is done.
 //!
-//! Whoever carries words out meets a work at each. So no choice among works has more than three ways: a processor foresees a
-//! few short choices far better than one jump to any of forty places.
+//! A board chooses by the work at each step. So no choice among works has more than three ways: a processor foresees a few short
+//! choices far better than one jump to any of forty places.
 
 use words::instruction::WideOp;
 

@@ -1,8 +1,8 @@
 //! Carries out routine files and prints what it carried out, an answer a line.
 //!
 //! It stands on the libraries for everything that decides: `routine` reads, `judge` judges, `couples` works the boards, `explanations`
-//! explains. What is printed is tested by the run in the gate, and not proved: each function is proved to be safe and to end, and the
-//! exit status to be that of what was carried out.
+//! explains. Each function is proved to be safe and to end; `judge_by`, `carry_out` and `status` say more in their contracts. What is
+//! printed is tested by the run in the gate, and not proved.
 #![tactic(auto)]
 
 mod calls;
@@ -53,7 +53,7 @@ fn main(rt: HostRuntime) -> ExitCode {
     status(&done)
 }
 
-/// The exit status of what was done.
+/// The exit status of what was done: 0 for a yes, and 1 for a no or an error.
 fn status(done: &io::Result<bool>) -> ExitCode
     ensures { exit_status result ≡ status_of done.now }
 {

@@ -40,9 +40,9 @@ cell n rows row column = cond (nat_lt n row) 0 (slice_index rows (row * columns 
 pub record Rows : Type 0 where
   -- the level of a place before the word is carried out
   pub level : ℕ → ℕ → ℕ
-  -- the level of whatever decided that this word is carried out
+  -- the program-counter label: the level of whatever decided that this word is carried out
   pub region : ℕ → ℕ
-  -- the join address of the region
+  -- the join address of the region: a post-dominator of its words
   pub join_address : ℕ → ℕ
   -- the cycles from here to the join address; outside every region they are 0
   pub remaining : ℕ → ℕ
