@@ -63,7 +63,6 @@ pub fn binary(op: BinaryOp, a: u8, b: u8, carry: bool, zero: bool) -> ByteOutput
 }
 
 /// The operation on two registers that does what this one does on a register and a constant.
-// Kept a function and no From: it converts nothing, and an impl would have to stand in words, which knows no arithmetic.
 pub fn counterpart(op: ImmediateOp) -> BinaryOp
     ensures { result ≡ counterpart_of op }
 {

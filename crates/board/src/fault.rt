@@ -31,7 +31,7 @@ pub enum CallFault {
     Register = 13,
 }
 
-// By hand, since clauses speak of what `?` makes, and a derived `From` says nothing of it.
+// Written by hand for its `from_gives`: clauses name what `?` makes, and a derived `From` says nothing of it.
 impl From<WordFault> for MakingFault {
     ghost from_gives = { λ f r. r ≡ Words f };
 
@@ -41,7 +41,6 @@ impl From<WordFault> for MakingFault {
 }
 
 impl MakingFault {
-    // An enum whose variants hold fields has no number of its own, so a match gives the one of the table of refusals.
     /// Its number in the table of refusals.
     pub fn number(self) -> u8
         ensures { result ≡ number_of (making_refusal self) }

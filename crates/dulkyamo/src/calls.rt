@@ -19,7 +19,6 @@ impl fmt::Display for Place {
 }
 
 /// A call as routine files write it: one byte where a put gives both boards the same.
-// An order has a wrapper of this name too, in `naming`: each is one text of another type.
 #[derive(Clone, Copy)]
 pub struct Written(pub Call);
 

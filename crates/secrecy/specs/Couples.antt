@@ -34,14 +34,14 @@ blind (ends e) = ends e
 blind (byte n) = byte 0
 
 module _ {B V W : Type 0} (m : Meaning) (observer : ℕ) (M : Machine B V W) (R : Rows) where
-  -- a place is hidden in a row from an observer to whose level its own does not flow, and else visible to him
+  -- a place is hidden in a row from an observer to whose level its own does not flow, and else visible
   abbrev pub Hidden : ℕ → ℕ → Type 0
   Hidden row p = m.flows (R.level row p) observer ≡ false
 
   abbrev pub Visible : ℕ → ℕ → Type 0
   Visible row p = m.flows (R.level row p) observer ≡ true
 
-  -- a put gives both boards one byte, or each its own where the place is hidden in the first row
+  -- a put gives both boards one byte, or each its own, a secret, where row 0 hides the place
   abbrev pub Allowed : Both W → Type 0
   Allowed clears = Unit {0}
   Allowed (runs limit) = Unit {0}

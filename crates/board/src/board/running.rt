@@ -20,9 +20,7 @@ use cells::work::Work;
 use machine::phase::{Ending, Phase, Stop};
 use std::ops::ControlFlow;
 
-// That words and lent bytes stay the same (`Lent`) is said by each method that changes a board. A part of it with the address,
-// the returns and the count alone would say so once, but would be passed the listing's length in each call, and would have to
-// say of each that the address stays below it.
+// Each method that changes a board says in a clause that words and lent bytes stay the same (`Lent`).
 impl Board<'_, '_> {
     /// The cell of the word at which the board stands.
     fn fetch(&self) -> &Cell
@@ -32,7 +30,6 @@ impl Board<'_, '_> {
     }
 
     /// The count after so many cycles more, unless they pass the limit.
-    // The limit is the run's and the cycles are the word's: a struct of both would be made anew for each word.
     fn paid(&self, limit: u32, cycles: u8) -> ControlFlow<Ending, u32>
         ensures { MatchControlFlow result (λ count. (nat_lt limit (self.now.count + cycles) ≡ false) × (count ≡ self.now.count + cycles)) (λ ending. (nat_lt limit (self.now.count + cycles) ≡ true) × (ending ≡ Spent limit)) }
     {
@@ -154,7 +151,7 @@ impl Board<'_, '_> {
     }
 
     /// Goes on up to a limit of cycles, unless the board has ended or is stopped.
-    // Apart from `run`, which adds what is true of every machine: that the count is a sum.
+    // `run` adds what is true of every machine: that the count is a sum.
     fn carry_on(&mut self, limit: u32) -> Ending
         ensures state { after self.new (ends result) ≡ does (avr (words_of self.old)) (run_call limit) (board_of self.old) }
         ensures same { Lent self.old self.new }

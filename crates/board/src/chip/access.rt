@@ -8,7 +8,7 @@ use crate::chip::registers::Registers;
 use crate::memory::Memory;
 use avr::location::Location;
 
-// That the lent bytes stay the same ones (`lent`) is said by each method that changes a chip: no invariant speaks of before and after.
+// Each method that changes a chip says in its clause `lent` that the lent bytes stay the same ones.
 impl<'m> Chip<'m> {
     /// The chip on lent bytes, all cleared.
     pub(crate) fn new(memory: Memory<'m>) -> Self
@@ -58,7 +58,6 @@ impl<'m> Chip<'m> {
 }
 
 /// Whether there is such a place.
-// A match, since one arm is a comparison: `matches!` with an `if` would say it no plainer.
 pub(crate) fn is_valid(location: Location) -> bool
     ensures { result ≡ valid_of location }
 {
