@@ -7,5 +7,8 @@
 mod layout;
 mod reading;
 
-pub use layout::{COLUMNS, Column, FUNCTION, JOIN, PLACES, REGION, REMAINING};
+pub use layout::{
+    COLUMNS, Column, FUNCTION, JOIN, LEVELS, PLACES, REGION, REMAINING, is_place, level_columns,
+    place_columns,
+};
 pub use reading::{RoutineView, cell};

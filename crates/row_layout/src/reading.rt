@@ -5,7 +5,7 @@ ghost use Rattle.secrecy.specs.Rows.{cell as cell_of};
 ghost use Rattle.secrecy.specs.Rules.{leaves as leaves_of, stays as stays_of};
 ghost use Rattle.row_layout.specs.Views.{seen};
 
-use crate::layout::{COLUMNS, FUNCTION, JOIN, PLACES, REGION, REMAINING};
+use crate::layout::{COLUMNS, FUNCTION, JOIN, REGION, REMAINING, is_place};
 use words::instruction::Instruction;
 
 /// The number in one column of one row, where the rows are those of `words` words and the finish row. Past the finish row, and
@@ -22,8 +22,8 @@ pub fn cell(words: usize, rows: &[u16], row: u32, column: u16) -> u16
 }
 
 /// A routine as it is lent: its words, and the numbers of its rows, one row for each word and after them the finish row. Any words and
-/// any numbers may be read: past the last word there is a nop, and past the finish row, past the last place and where numbers are
-/// missing, there is 0.
+/// any numbers may be read: past the last word there is a nop, and past the finish row, where there is no place and where numbers
+/// are missing, there is 0.
 // One slice and not a slice of rows: a file, and whoever calls the judge, may give any count of numbers.
 #[derive(Clone, Copy)]
 pub struct RoutineView<'a> {
@@ -51,7 +51,7 @@ impl RoutineView<'_> {
     pub fn level(&self, row: u32, place: u16) -> u16
         ensures { result ≡ (seen self.now).level row place }
     {
-        if place < PLACES {
+        if is_place(place) {
             self.cell(row, place)
         } else {
             0

@@ -1,3 +1,4 @@
+pub mod Columns
 pub mod Says
 pub mod Meanings
 pub mod Setting

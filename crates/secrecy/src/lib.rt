@@ -22,7 +22,7 @@ pub fn hiding_stands()
 {}
 
 /// The rules at work: some small routines with their rows, accepted or refused.
-#[tactic(auto, unfolding(verdicts::specs::Verdict::first))]
+#[tactic(auto, unfolding(verdicts::specs::Verdict::first, verdicts::specs::Verdict::first_of, crate::specs::Rows::place_columns, crate::specs::Rows::is_among))]
 pub fn examples_stand()
     ensures { Examples }
 {}

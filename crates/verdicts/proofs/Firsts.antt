@@ -1,6 +1,6 @@
 -- Lemmas on checks that follow one another, for the loops and the `?` of the code that makes them.
-use Rattle.std.proofs.Common.{rules, ◌≡◌, ℕ, zero, suc, ◌+◌, ◌<◌, ◌≤◌, Bool, true, List, IsErrAnd, Result, refl, arith}
-use Rattle.verdicts.specs.Verdict.{Verdict, Refusal, fine, refused, and_then, rule, first, says}
+use Rattle.std.proofs.Common.{rules, ◌≡◌, ℕ, zero, suc, ◌+◌, ◌<◌, ◌≤◌, Bool, true, List, [], ◌∷◌, ◌++◌, IsErrAnd, Result, refl, arith}
+use Rattle.verdicts.specs.Verdict.{Verdict, Refusal, fine, refused, and_then, rule, first, first_of, says}
 use Rattle.verdicts.specs.Laws.{Keeps, BreaksFirst, FirstBrokenStands}
 
 pub and_fine : (v w : Verdict) → and_then v w ≡ fine → (v ≡ fine) × (w ≡ fine)
@@ -53,3 +53,29 @@ module _ (f : ℕ → Verdict) where
 
 pub first_broken_law : FirstBrokenStands
 first_broken_law f n = record { kept = first_each f n; found = each_first f n; named = first_named f n }
+
+-- The rules of the elements of a list.
+module _ {X : Type 0} (f : X → Verdict) where
+  pub first_of-nil : first_of f [] ≡ fine
+  unfolding first_of
+  first_of-nil = refl
+
+  -- the first element's rule, and then the others
+  pub first_of-cons : (x : X) (xs : List X) → first_of f (x ∷ xs) ≡ and_then (f x) (first_of f xs)
+  unfolding first_of
+  first_of-cons x xs = refl
+
+  pub first_of-append : (xs ys : List X) → first_of f (xs ++ ys) ≡ and_then (first_of f xs) (first_of f ys)
+  unfolding first_of
+  first_of-append [] ys = refl
+  first_of-append (x ∷ xs) ys = grind (arith, first_of-append xs ys)
+
+  -- the steps of a loop over the list, where ys are the elements that are left: past one, at one that is broken, at the end
+  pub first_of_on : (v : Verdict) (x : X) (xs ys : List X) → v ≡ first_of f ys → ys ≡ x ∷ xs → f x ≡ fine → v ≡ first_of f xs
+  first_of_on v x xs ys e step here = grind (arith, first_of-cons x xs)
+
+  pub first_of_stop : (v : Verdict) (r : Refusal) (x : X) (xs ys : List X) → v ≡ first_of f ys → ys ≡ x ∷ xs → f x ≡ refused r → v ≡ refused r
+  first_of_stop v r x xs ys e step here = grind (arith, first_of-cons x xs)
+
+  pub first_of_end : (v : Verdict) (ys : List X) → v ≡ first_of f ys → ys ≡ [] → v ≡ fine
+  first_of_end v ys e none = grind (arith, first_of-nil)

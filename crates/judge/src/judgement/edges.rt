@@ -1,7 +1,7 @@
 //! Edges: their time, and the levels that flow along them.
 ghost use Rattle.std.specs.Prelude.{◌≡◌, ◌||◌};
-ghost use Rattle.verdicts.specs.Verdict.{says, first};
-ghost use Rattle.secrecy.specs.Rows.{places};
+ghost use Rattle.verdicts.specs.Verdict.{says, first_of};
+ghost use Rattle.secrecy.specs.Rows.{place_columns as columns_of_places};
 ghost use Rattle.secrecy.specs.Rules.{outside, leaves as leaves_of, stays as stays_of, flow_rule, region_rule, edge_rule};
 ghost use Rattle.judge.specs.Faults.{flow_refusal};
 ghost use Rattle.row_layout.specs.Views.{seen, chip};
@@ -10,7 +10,7 @@ use crate::faults::FlowFault;
 use crate::judgement::Judgement;
 use crate::judgement::departure::Departure;
 use levels::order::Order;
-use row_layout::{PLACES, REGION};
+use row_layout::{REGION, place_columns};
 
 impl<O: Order> Departure<'_, O> {
     /// Whether an edge, if it comes from inside a region, ends the region in time or stays in it.
@@ -25,15 +25,15 @@ impl<O: Order> Departure<'_, O> {
 
     /// Whether the level of each place after a word flows to its level in the next row.
     fn check_levels(&self, next: u32) -> Result<(), FlowFault>
-        ensures { says flow_refusal result ≡ first (flow_rule (O.Order.meaning self.now.judgement.now.order.now) (chip self.now.judgement.now.routine) (seen self.now.judgement.now.routine) self.now.at next) places }
+        ensures { says flow_refusal result ≡ first_of (flow_rule (O.Order.meaning self.now.judgement.now.order.now) (chip self.now.judgement.now.routine) (seen self.now.judgement.now.routine) self.now.at next) columns_of_places }
     {
         let Judgement { routine, order, .. } = self.judgement;
-        for (place, level) in (0..PLACES).zip(&self.levels) {
-            if !order.flows(*level, routine.level(next, place)) {
+        for (place, level) in place_columns().iter().zip(&self.levels) {
+            if !order.flows(*level, routine.level(next, *place)) {
                 return Err(FlowFault::Level {
                     at: self.at,
                     next,
-                    place,
+                    place: *place,
                 });
             }
         }

@@ -1,15 +1,15 @@
 //! Levels joined: the level of a place after an instruction, and of what decides where one leads.
-ghost use Rattle.std.specs.Prelude.{◌≡◌, ℕ, ◌<◌, slice_index};
+ghost use Rattle.std.specs.Prelude.{◌≡◌, map};
 ghost use Rattle.avr.specs.Chip.{kind_of};
-ghost use Rattle.secrecy.specs.Rows.{places};
+ghost use Rattle.secrecy.specs.Rows.{place_columns as columns_of_places};
 ghost use Rattle.secrecy.specs.Flow.{joined as joined_of, join_of_all, deciding_of};
 ghost use Rattle.row_layout.specs.Views.{seen};
 ghost use Rattle.judge.specs.Views.{level_by};
 
 use crate::judgement::Judgement;
-use crate::judgement::departure::LEVELS;
 use avr::table::{comes_from, deciders};
 use levels::order::Order;
+use row_layout::{PLACES, place_columns};
 use std::array;
 use words::instruction::Instruction;
 use words::route::Route;
@@ -57,10 +57,11 @@ impl<O: Order> Judgement<'_, O> {
         }
     }
 
-    /// The level of each place after an instruction.
-    pub(crate) fn levels_after(&self, at: u16, instruction: Instruction) -> [u16; LEVELS]
-        ensures { (p : ℕ) → p < places → slice_index result p ≡ level_by (O.Order.meaning self.now.order.now) (seen self.now.routine) at instruction p }
+    /// The level of each place after an instruction, in the order of their columns.
+    pub(crate) fn levels_after(&self, at: u16, instruction: Instruction) -> [u16; PLACES]
+        ensures { result ≡ map (level_by (O.Order.meaning self.now.order.now) (seen self.now.routine) at instruction) columns_of_places }
     {
-        array::from_fn(|place| self.level_after(at, instruction, place as u16))
+        let columns = place_columns();
+        array::from_fn(|index| self.level_after(at, instruction, columns[index]))
     }
 }

@@ -1,7 +1,7 @@
 //! Rows on their own: their codes and their shape.
 ghost use Rattle.std.specs.Prelude.{◌≡◌, ◌&&◌, length, ◌==◌};
-ghost use Rattle.verdicts.specs.Verdict.{says, first};
-ghost use Rattle.secrecy.specs.Rows.{coded};
+ghost use Rattle.verdicts.specs.Verdict.{says, first_of};
+ghost use Rattle.secrecy.specs.Rows.{level_columns as columns_of_levels};
 ghost use Rattle.secrecy.specs.Rules.{held_rule, bare_outside, joins_in_listing, function_in_listing, begins_at_zero, bare_finish, shaped, row_rule};
 ghost use Rattle.judge.specs.Faults.{row_refusal};
 ghost use Rattle.row_layout.specs.Views.{seen};
@@ -9,18 +9,21 @@ ghost use Rattle.row_layout.specs.Views.{seen};
 use crate::faults::RowFault;
 use crate::judgement::Judgement;
 use levels::order::Order;
-use row_layout::REGION;
+use row_layout::level_columns;
 
 impl<O: Order> Judgement<'_, O> {
     /// Whether every code of a row is held, column by column.
-    #[tactic(auto, using(verdicts::proofs::Firsts::first_none, verdicts::proofs::Firsts::first_more, verdicts::proofs::Firsts::first_stop, verdicts::proofs::Firsts::rule_met, crate::proofs::Checks::broken))]
+    #[tactic(auto, unfolding(verdicts::specs::Verdict::first_of))]
     fn check_codes(&self, row: u16) -> Result<(), RowFault>
-        ensures { says row_refusal result ≡ first (held_rule (O.Order.meaning self.now.order.now) (length self.now.routine.words.now) self.now.routine.rows.now row) coded }
+        ensures { says row_refusal result ≡ first_of (held_rule (O.Order.meaning self.now.order.now) (length self.now.routine.words.now) self.now.routine.rows.now row) columns_of_levels }
     {
         // Columns: a code is read by the total `cell`, which the rules speak of.
-        for column in 0..=REGION {
-            if !self.order.holds(self.routine.cell(u32::from(row), column)) {
-                return Err(RowFault::NotHeld { row, column });
+        for column in level_columns() {
+            if !self.order.holds(self.routine.cell(u32::from(row), *column)) {
+                return Err(RowFault::NotHeld {
+                    row,
+                    column: *column,
+                });
             }
         }
         Ok(())
