@@ -24,7 +24,7 @@ impl Job<'_, '_> {
         match judge_by(words, rows, order) {
             Ok(()) => println!(rt; "judge: accepted"),
             Err(fault) => {
-                let routine = RoutineView { words, rows };
+                let routine = RoutineView::new(words, rows);
                 let refusal = Refusal { fault, routine };
                 println!(rt; "judge: {refusal}")
             }

@@ -4,8 +4,8 @@ use Rattle.levels.specs.Order.{Meaning}
 use Rattle.machine.specs.Machine.{Kind, plain, forks, calls, rets}
 use Rattle.secrecy.specs.Rows.{place_columns}
 use Rattle.secrecy.specs.Flow as flow
-use Rattle.row_layout.specs.declared.reading.RoutineView.{RoutineView}
-use Rattle.row_layout.specs.Views.{seen, chip}
+use Rattle.row_layout.specs.declared.routine.RoutineView.{RoutineView}
+use Rattle.row_layout.specs.Views.{rows_in, chip}
 
 -- the function that a word calls, if it calls one
 abbrev pub callee_of : Kind → Option ℕ
@@ -21,5 +21,5 @@ pub record Callees (routine : RoutineView) (callees : List (Option ℕ)) : Type 
 
 -- what the word at an address leaves behind: the level of each place after it, in the order of their columns, and its pc_level
 pub record Departs (m : Meaning) (routine : RoutineView) (at : ℕ) (after : List ℕ) (known : ℕ) : Type 0 where
-  pub levels : after ≡ map (flow.level_after m (chip routine) (seen routine) at) place_columns
-  pub pc_level : known ≡ flow.pc_level m (chip routine) (seen routine) at
+  pub levels : after ≡ map (flow.level_after m (chip routine) (rows_in routine.rows) at) place_columns
+  pub pc_level : known ≡ flow.pc_level m (chip routine) (rows_in routine.rows) at

@@ -18,7 +18,7 @@ pub struct Judgement<'j, O> {
     // Fixed memory, since the judge has no heap: nobody is called past the last word.
     callees: [Option<u32>; CAPACITY],
     ghost few: { length routine.words.now ≤ 1024 },
-    ghost whole: { length routine.rows.now ≡ (length routine.words.now + 1) * columns },
+    ghost whole: { length routine.rows.rows.now ≡ (length routine.words.now + 1) * columns },
     ghost calls: { Callees routine callees },
 }
 

@@ -1,8 +1,8 @@
 //! The passes over a routine: all rows, all addresses, all edges.
-ghost use Rattle.std.specs.Prelude.{◌≡◌, length};
+ghost use Rattle.std.specs.Prelude.{◌≡◌};
 ghost use Rattle.verdicts.specs.Verdict.{says};
 ghost use Rattle.secrecy.specs.Rules.{row_rules, address_rules, edges_from, edge_rules};
-ghost use Rattle.row_layout.specs.Views.{seen, chip};
+ghost use Rattle.row_layout.specs.Views.{rows_in, chip};
 ghost use Rattle.judge.specs.Faults.{row_refusal, flow_refusal};
 
 use crate::faults::{FlowFault, RowFault};
@@ -16,7 +16,7 @@ impl<O: Order> Judgement<'_, O> {
     /// All rows in turn, the finish row too.
     #[tactic(auto, using(verdicts::proofs::Firsts::first_none, verdicts::proofs::Firsts::first_more))]
     pub(crate) fn check_rows(&self) -> Result<(), RowFault>
-        ensures { says row_refusal result ≡ row_rules (O.Order.meaning self.now.order.now) (length self.now.routine.words.now) self.now.routine.rows.now }
+        ensures { says row_refusal result ≡ row_rules (O.Order.meaning self.now.order.now) self.now.routine.rows.words self.now.routine.rows.rows.now }
     {
         for row in 0..=self.len() {
             self.check_row(row)?;
@@ -27,7 +27,7 @@ impl<O: Order> Judgement<'_, O> {
     /// All addresses in turn.
     #[tactic(auto, using(verdicts::proofs::Firsts::first_none, verdicts::proofs::Firsts::first_more))]
     pub(crate) fn check_addresses(&self) -> Result<(), FlowFault>
-        ensures { says flow_refusal result ≡ address_rules (O.Order.meaning self.now.order.now) (chip self.now.routine) (seen self.now.routine) }
+        ensures { says flow_refusal result ≡ address_rules (O.Order.meaning self.now.order.now) (chip self.now.routine) (rows_in self.now.routine.rows) }
     {
         for at in 0..self.len() {
             self.check_address(at)?;
@@ -46,7 +46,7 @@ impl<O: Order> Judgement<'_, O> {
             at,
             levels: self.levels_after(at, instruction),
             pc_level: self.order.join(
-                self.routine.region(u32::from(at)),
+                self.routine.rows.region(u32::from(at)),
                 self.deciding(at, instruction),
             ),
         }
@@ -54,7 +54,7 @@ impl<O: Order> Judgement<'_, O> {
 
     /// The edges of the word at an address, in their order.
     fn check_edges_from(&self, at: u16) -> Result<(), FlowFault>
-        ensures { says flow_refusal result ≡ edges_from (O.Order.meaning self.now.order.now) (chip self.now.routine) (seen self.now.routine) at ((chip self.now.routine).kind at) }
+        ensures { says flow_refusal result ≡ edges_from (O.Order.meaning self.now.order.now) (chip self.now.routine) (rows_in self.now.routine.rows) at ((chip self.now.routine).kind at) }
     {
         let instruction = self.routine.instruction(at);
         let departure = self.depart(at);
@@ -72,7 +72,7 @@ impl<O: Order> Judgement<'_, O> {
     /// All edges in turn, by the address that they leave.
     #[tactic(auto, using(verdicts::proofs::Firsts::first_none, verdicts::proofs::Firsts::first_more))]
     pub(crate) fn check_edges(&self) -> Result<(), FlowFault>
-        ensures { says flow_refusal result ≡ edge_rules (O.Order.meaning self.now.order.now) (chip self.now.routine) (seen self.now.routine) }
+        ensures { says flow_refusal result ≡ edge_rules (O.Order.meaning self.now.order.now) (chip self.now.routine) (rows_in self.now.routine.rows) }
     {
         for at in 0..self.len() {
             self.check_edges_from(at)?;

@@ -1,6 +1,6 @@
 use Rattle.std.proofs.Common.{◌≡◌, ℕ, rules, length, get_or, map, refl, sym, ◌∙◌, arith}
 use Rattle.std.proofs.lemmas.List.{ext_get_or, get_or-map, length-map}
-use Rattle.row_layout.specs.Views.{seen}
+use Rattle.row_layout.specs.Views.{rows_in}
 use Rattle.judge.specs.Views.{level_by}
 use Rattle.secrecy.specs.Rows.{place_columns}
 use Rattle.avr.proofs.Made.{made}
@@ -12,7 +12,7 @@ all_places = refl
 
 pub returns : goal.returns
 returns g c =
-    let level = level_by (g.O.Order.meaning c.args.self.now.order.now) (seen c.args.self.now.routine) c.args.at c.args.instruction in
+    let level = level_by (g.O.Order.meaning c.args.self.now.order.now) (rows_in c.args.self.now.routine.rows) c.args.at c.args.instruction in
     let items = c.from_fn.ensures.items in
     let long : length c.from_fn.result ≡ length place_columns = items.long ∙ sym all_places in
     let each = made _ (λ (i y : ℕ). y ≡ level (get_or place_columns i 0)) _ (λ i y q k. (search rules, search rules)) _ 35 items in

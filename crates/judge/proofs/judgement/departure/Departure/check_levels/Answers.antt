@@ -2,7 +2,7 @@ use Rattle.std.proofs.Common.{◌≡◌, true, false, List, ℕ, [], ◌∷◌, 
 use Rattle.std.proofs.lemmas.List.{nil_from_length, length-map}
 use Rattle.verdicts.proofs.Firsts.{first_of_on, first_of_stop, first_of_end, rule_met}
 use Rattle.secrecy.specs.Flow.{level_after}
-use Rattle.row_layout.specs.Views.{seen, chip}
+use Rattle.row_layout.specs.Views.{rows_in, chip}
 use Rattle.judge.proofs.Checks.{broken}
 use Rattle.judge.proofs.judgement.departure.Departure.check_levels.Goals as goal
 
@@ -20,10 +20,10 @@ returns-then-not-flows g c =
     let routine = departure.judgement.now.routine in
     let steps = c.in-Some.ensures.steps in
     let i = c.loop-place.invariant in
-    let after = heads (level_after m (chip routine) (seen routine) departure.at) c.in-Some.level.now c.in-Some.place.now c.next.new.self.b.rest.now c.next.new.self.a.rest.now c.loop-place.place-iterator.a.rest.now steps.0 (sym steps.1 ∙ i.2) in
+    let after = heads (level_after m (chip routine) (rows_in routine.rows) departure.at) c.in-Some.level.now c.in-Some.place.now c.next.new.self.b.rest.now c.next.new.self.a.rest.now c.loop-place.place-iterator.a.rest.now steps.0 (sym steps.1 ∙ i.2) in
     let level = c.level.ensures in
     let test = c.if-not-flows.ensures in
-    let e : m.flows (level_after m (chip routine) (seen routine) departure.at c.in-Some.place.now) ((seen routine).level c.args.next c.in-Some.place.now) ≡ false = cc in
+    let e : m.flows (level_after m (chip routine) (rows_in routine.rows) departure.at c.in-Some.place.now) ((rows_in routine.rows).level c.args.next c.in-Some.place.now) ≡ false = cc in
     sym (first_of_stop _ _ _ _ _ _ i.3 steps.0 (broken _ 10 _ e))
 
 pub loop-place-preserved : goal.loop-place-preserved
@@ -33,10 +33,10 @@ loop-place-preserved g c =
     let routine = departure.judgement.now.routine in
     let steps = c.in-Some.ensures.steps in
     let i = c.loop-place.invariant in
-    let after = heads (level_after m (chip routine) (seen routine) departure.at) c.in-Some.level.now c.in-Some.place.now c.next.new.self.b.rest.now c.next.new.self.a.rest.now c.loop-place.place-iterator.a.rest.now steps.0 (sym steps.1 ∙ i.2) in
+    let after = heads (level_after m (chip routine) (rows_in routine.rows) departure.at) c.in-Some.level.now c.in-Some.place.now c.next.new.self.b.rest.now c.next.new.self.a.rest.now c.loop-place.place-iterator.a.rest.now steps.0 (sym steps.1 ∙ i.2) in
     let level = c.level.ensures in
     let test = c.if-not-flows.ensures in
-    let e : m.flows (level_after m (chip routine) (seen routine) departure.at c.in-Some.place.now) ((seen routine).level c.args.next c.in-Some.place.now) ≡ true = cc in
+    let e : m.flows (level_after m (chip routine) (rows_in routine.rows) departure.at c.in-Some.place.now) ((rows_in routine.rows).level c.args.next c.in-Some.place.now) ≡ true = cc in
     ((tt, tt), tt, after.1, first_of_on _ _ _ _ _ i.3 steps.0 (rule_met _ 10 _ e))
 
 pub returns : goal.returns
