@@ -1,4 +1,5 @@
 pub mod Faults
 pub mod Judgement
+pub mod Refused
 pub mod Views
 pub mod Worked
