@@ -8,7 +8,7 @@ ghost use Rattle.orders.specs.Making.{made_meaning};
 use crate::working::Job;
 use explanations::Refusal;
 use judge::faults::JudgeFault;
-use judge::judging::judge;
+use judge::judge;
 use orders::making::Made;
 use row_layout::RoutineView;
 use std::io;

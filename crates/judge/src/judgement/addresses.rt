@@ -2,9 +2,10 @@
 ghost use Rattle.std.specs.Prelude.{◌≡◌, ◌<◌, ◌&&◌, length, ◌==◌, nat_lt};
 ghost use Rattle.verdicts.specs.Verdict.{says};
 ghost use Rattle.avr.specs.Chip.{kind_of};
-ghost use Rattle.secrecy.specs.Rules.{local, keeps_function, bounded, address_rule};
+ghost use Rattle.secrecy.specs.Rules.{local, keeps_function, bounded};
 ghost use Rattle.judge.specs.Faults.{flow_refusal};
-ghost use Rattle.row_layout.specs.Views.{rows_in, chip};
+ghost use Rattle.judge.specs.Verdicts.{address_verdict};
+ghost use Rattle.row_layout.specs.Views.{rows_in};
 
 use crate::faults::FlowFault;
 use crate::judgement::Judgement;
@@ -51,7 +52,7 @@ impl<O: Order> Judgement<'_, O> {
     /// The rules of one address: no call or return inside a region, every edge keeps in, and nothing above level 0 decides
     /// outside.
     pub(crate) fn check_address(&self, at: u16) -> Result<(), FlowFault>
-        ensures { says flow_refusal result ≡ address_rule (O.Order.meaning self.now.order.now) (chip self.now.routine) (rows_in self.now.routine.rows) at }
+        ensures { says flow_refusal result ≡ address_verdict (O.Order.meaning self.now.order.now) self.now.routine at }
     {
         let instruction = self.routine.instruction(at);
         if !self.is_outside(u32::from(at)) && !is_local(at, instruction) {

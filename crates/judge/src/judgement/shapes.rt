@@ -1,9 +1,9 @@
 //! Rows on their own: their codes and their shape.
 ghost use Rattle.std.specs.Prelude.{◌≡◌, ◌&&◌, ◌==◌};
-ghost use Rattle.verdicts.specs.Verdict.{says, first_of};
-ghost use Rattle.secrecy.specs.Rows.{level_columns as columns_of_levels};
-ghost use Rattle.secrecy.specs.Rules.{held_rule, bare_outside, joins_in_listing, function_in_listing, begins_at_zero, bare_finish, shaped, row_rule};
+ghost use Rattle.verdicts.specs.Verdict.{says};
+ghost use Rattle.secrecy.specs.Rules.{bare_outside, joins_in_listing, function_in_listing, begins_at_zero, bare_finish, shaped};
 ghost use Rattle.judge.specs.Faults.{row_refusal};
+ghost use Rattle.judge.specs.Verdicts.{codes_verdict, row_verdict};
 ghost use Rattle.row_layout.specs.Views.{rows_in};
 
 use crate::faults::RowFault;
@@ -15,7 +15,7 @@ impl<O: Order> Judgement<'_, O> {
     /// Whether every code of a row is held, column by column.
     #[tactic(auto, unfolding(verdicts::specs::Verdict::first_of))]
     fn check_codes(&self, row: u16) -> Result<(), RowFault>
-        ensures { says row_refusal result ≡ first_of (held_rule (O.Order.meaning self.now.order.now) self.now.routine.rows.words self.now.routine.rows.rows.now row) columns_of_levels }
+        ensures { says row_refusal result ≡ codes_verdict (O.Order.meaning self.now.order.now) self.now.routine row }
     {
         // Columns: a code is read by the total `cell`, which the rules speak of.
         for column in level_columns() {
@@ -88,7 +88,7 @@ impl<O: Order> Judgement<'_, O> {
 
     /// The rules of one row: its codes, then its shape.
     pub(crate) fn check_row(&self, row: u16) -> Result<(), RowFault>
-        ensures { says row_refusal result ≡ row_rule (O.Order.meaning self.now.order.now) self.now.routine.rows.words self.now.routine.rows.rows.now row }
+        ensures { says row_refusal result ≡ row_verdict (O.Order.meaning self.now.order.now) self.now.routine row }
     {
         self.check_codes(row)?;
         if self.is_shaped(u32::from(row)) {
