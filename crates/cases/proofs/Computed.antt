@@ -1,13 +1,14 @@
 -- The rows of the table, computed.
 use Rattle.std.proofs.Common.{◌≡◌, ℕ, Bool, true, false, eqb, List, [], ◌∷◌, ◌++◌, refl, arith}
 use Rattle.std.proofs.lemmas.Bool.{agree_below, agree_below_at}
-use Rattle.verdicts.specs.Verdict.{first}
+use Rattle.verdicts.specs.Verdict.{first, first_of}
 use Rattle.words.specs.Decode.{decode_of}
 use Rattle.machine.specs.declared.phase.Ending.TheVariants as ending
 use Rattle.machine.specs.Run.{run_for}
 use Rattle.machine.specs.Calls.{run, put, ends, does, fresh, Answer}
 use Rattle.avr.specs.declared.location.Location.TheVariants.{Register}
 use Rattle.avr.specs.Chip.{avr}
+use Rattle.secrecy.specs.Rows.{place_columns, is_among}
 use Rattle.cases.specs.Cases.{Case, AllHold, word_cases, value_cases, run_cases, judge_cases, balanced, CasesStand}
 
 words_hold : AllHold word_cases
@@ -39,7 +40,7 @@ unfolding ended decode_of run_for
 always_seven = refl
 
 judges_hold : AllHold judge_cases
-unfolding decode_of first
+unfolding decode_of first first_of place_columns is_among
 judges_hold = (refl, ((λ v l. ended_so 7 (answer_to v) (agree_below_at (λ n. ended 7 (answer_to n)) (λ n. true) 256 v always_seven l)), (refl, (refl, (refl, tt)))))
 
 append : (cs ds : List Case) → AllHold cs → AllHold ds → AllHold (cs ++ ds)

@@ -1,5 +1,5 @@
 -- Worked examples, as one table. Each row says what some words, a board or the judge come to. Assumes nothing.
-use Rattle.std.specs.Prelude.{◌≡◌, ℕ, ◌<◌, Bool, true, false, List, [], ◌∷◌, ◌++◌, replicate, negsuc, Some, None, Option, slice_index, slice_set}
+use Rattle.std.specs.Prelude.{◌≡◌, ℕ, ◌<◌, Bool, true, false, List, [], ◌∷◌, ◌++◌, length, replicate, negsuc, Some, None, Option, slice_index, slice_set}
 use Rattle.verdicts.specs.Verdict.{Verdict, fine, refused, refusal}
 use Rattle.words.specs.declared.instruction.BinaryOp.TheVariants as binary
 use Rattle.words.specs.declared.instruction.ImmediateOp.TheVariants as immediate
@@ -20,6 +20,7 @@ use Rattle.avr.specs.Effects.{effect_of}
 use Rattle.avr.specs.Chip.{avr}
 use Rattle.levels.specs.Order.{Meaning}
 use Rattle.levels.specs.Chains.{chain}
+use Rattle.secrecy.specs.Rows.{place_columns}
 use Rattle.judge.specs.Judgement.{judgement_of}
 
 -- a register and a byte in it
@@ -105,7 +106,7 @@ run_cases = runs loop 13 (ending.Ended 13) ∷ (runs loop 12 (ending.Spent 12) �
 
 -- a row with some levels 1 (the places given), and then region level, join address, remaining cycles and function
 abbrev pub levels : List ℕ → List ℕ
-levels [] = replicate 35 0
+levels [] = replicate (length place_columns) 0
 levels (p ∷ ps) = slice_set (levels ps) p 1
 
 -- such a row of function 0

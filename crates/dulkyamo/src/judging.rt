@@ -8,7 +8,7 @@ ghost use Rattle.orders.specs.Making.{made_meaning};
 use crate::working::Job;
 use explanations::Refusal;
 use judge::faults::JudgeFault;
-use judge::judging::judge;
+use judge::judge;
 use orders::making::Made;
 use row_layout::RoutineView;
 use std::io;
@@ -24,7 +24,7 @@ impl Job<'_, '_> {
         match judge_by(words, rows, order) {
             Ok(()) => println!(rt; "judge: accepted"),
             Err(fault) => {
-                let routine = RoutineView { words, rows };
+                let routine = RoutineView::new(words, rows);
                 let refusal = Refusal { fault, routine };
                 println!(rt; "judge: {refusal}")
             }

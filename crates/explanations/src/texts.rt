@@ -91,7 +91,7 @@ impl Refusal<'_> {
     ) -> fmt::Result {
         match fault {
             RowFault::Count => {
-                let count = self.routine.rows.len();
+                let count = self.routine.rows.rows.len();
                 let words = self.routine.words.len();
                 write!(
                     f,
@@ -101,7 +101,7 @@ impl Refusal<'_> {
             RowFault::NotHeld { row, column } => {
                 let label = self.label(u32::from(row));
                 let name = ColumnName(column);
-                let code = self.routine.cell(u32::from(row), column);
+                let code = self.routine.rows.cell(u32::from(row), column);
                 write!(
                     f,
                     " at row {row}, column {column}: {label} says {name}={code}, and the order holds no code {code}; write one that it holds"
@@ -119,18 +119,20 @@ impl Refusal<'_> {
         let row = u32::from(at);
         let len = self.routine.words.len();
         let join = self.join(row);
-        let function = self.routine.function(row);
+        let function = self.routine.rows.function(row);
         if usize::from(at) == len {
             return f.write_str(
                 "it is the finish row, whose region, join, remaining and function must be 0",
             );
         }
-        if self.routine.remaining(row) == 0 && (self.routine.region(row) != 0 || join != 0) {
+        if self.routine.rows.remaining(row) == 0
+            && (self.routine.rows.region(row) != 0 || join != 0)
+        {
             return f.write_str(
                 "remaining is 0, so region and join must be 0 too; or write the remaining cycles of the region",
             );
         }
-        if self.routine.remaining(row) != 0 && usize::from(join) >= len {
+        if self.routine.rows.remaining(row) != 0 && usize::from(join) >= len {
             return write!(
                 f,
                 "join is {join}, and must be the address of one of the {len} words"
@@ -163,7 +165,7 @@ impl Refusal<'_> {
     /// A call or a return inside a region.
     fn explain_inside<W: fmt::Write>(&self, f: &mut fmt::Formatter<W>, at: u16) -> fmt::Result {
         let word = Assembly(self.routine.instruction(at));
-        let remaining = self.routine.remaining(u32::from(at));
+        let remaining = self.routine.rows.remaining(u32::from(at));
         write!(
             f,
             " at {at}: {word} stands inside a region, since row {at} has remaining={remaining}; a call or a return must stand outside, so end the region before it"
@@ -173,7 +175,7 @@ impl Refusal<'_> {
     /// A word that leads out of the listing or of its function.
     fn explain_bounds<W: fmt::Write>(&self, f: &mut fmt::Formatter<W>, at: u16) -> fmt::Result {
         let word = Assembly(self.routine.instruction(at));
-        let function = self.routine.function(u32::from(at));
+        let function = self.routine.rows.function(u32::from(at));
         let len = self.routine.words.len();
         write!(
             f,
@@ -222,7 +224,7 @@ impl Refusal<'_> {
         column: u16,
     ) -> fmt::Result {
         let name = ColumnName(column);
-        let level = self.routine.cell(row, column);
+        let level = self.routine.rows.cell(row, column);
         write!(f, "{name}={level}")
     }
 
@@ -236,11 +238,11 @@ impl Refusal<'_> {
         let word = Assembly(self.routine.instruction(at));
         let cycles = self.cycles(at, next);
         let label = self.label(next);
-        let left = self.routine.remaining(next);
+        let left = self.routine.rows.remaining(next);
         let due_join = self.due_join(next);
         let due_cycles = self.due_cycles(at, next);
         let join = self.join(u32::from(at));
-        let remaining = self.routine.remaining(u32::from(at));
+        let remaining = self.routine.rows.remaining(u32::from(at));
         write!(
             f,
             " at {at}, next {next}: {word} takes {cycles} of the cycles that remain on its way to {next}, and {label} says remaining={left}; "
@@ -262,7 +264,7 @@ impl Refusal<'_> {
         let word = Assembly(self.routine.instruction(at));
         let label = self.label(next);
         let name = ColumnName(place);
-        let level = self.routine.cell(next, place);
+        let level = self.routine.rows.cell(next, place);
         if place == REGION {
             return write!(
                 f,

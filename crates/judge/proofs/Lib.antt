@@ -1,3 +1,4 @@
 pub mod Checks
 pub mod Joins
 pub mod Placed
+pub mod Refused

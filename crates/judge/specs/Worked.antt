@@ -1,11 +1,11 @@
 -- What is worked out of a routine once, before its edges are looked at. Assumes nothing.
-use Rattle.std.specs.Prelude.{◌≡◌, ℕ, ◌<◌, List, length, Some, None, Option, slice_index, slice_index_or}
+use Rattle.std.specs.Prelude.{◌≡◌, ℕ, ◌<◌, List, map, length, Some, None, Option, slice_index_or}
 use Rattle.levels.specs.Order.{Meaning}
 use Rattle.machine.specs.Machine.{Kind, plain, forks, calls, rets}
-use Rattle.secrecy.specs.Rows.{places}
+use Rattle.secrecy.specs.Rows.{place_columns}
 use Rattle.secrecy.specs.Flow as flow
-use Rattle.row_layout.specs.declared.reading.RoutineView.{RoutineView}
-use Rattle.row_layout.specs.Views.{seen, chip}
+use Rattle.row_layout.specs.declared.routine.RoutineView.{RoutineView}
+use Rattle.row_layout.specs.Views.{rows_in, chip}
 
 -- the function that a word calls, if it calls one
 abbrev pub callee_of : Kind → Option ℕ
@@ -19,7 +19,7 @@ pub record Callees (routine : RoutineView) (callees : List (Option ℕ)) : Type 
   pub long : length callees ≡ 1024
   pub each : (b : ℕ) → b < 1024 → slice_index_or callees b None ≡ callee_of ((chip routine).kind b)
 
--- what the word at an address leaves behind: the level of each place after it, and its pc_level
+-- what the word at an address leaves behind: the level of each place after it, in the order of their columns, and its pc_level
 pub record Departs (m : Meaning) (routine : RoutineView) (at : ℕ) (after : List ℕ) (known : ℕ) : Type 0 where
-  pub levels : (p : ℕ) → p < places → slice_index after p ≡ flow.level_after m (chip routine) (seen routine) at p
-  pub pc_level : known ≡ flow.pc_level m (chip routine) (seen routine) at
+  pub levels : after ≡ map (flow.level_after m (chip routine) (rows_in routine.rows) at) place_columns
+  pub pc_level : known ≡ flow.pc_level m (chip routine) (rows_in routine.rows) at

@@ -17,7 +17,7 @@ pub struct Judgement<'j, O> {
     // Room for the longest listing, since the judge has no heap; past the last word nobody is called.
     callees: [Option<u32>; CAPACITY],
     ghost few: { length routine.words.now ≤ 1024 },
-    ghost whole: { length routine.rows.now ≡ (length routine.words.now + 1) * columns },
+    ghost whole: { length routine.rows.rows.now ≡ (length routine.words.now + 1) * columns },
     ghost calls: { Callees routine callees },
 }
 

@@ -2,9 +2,11 @@
 //!
 //! It may use the words, the chip's table of sources, the layout of rows, and of an order its interface. The rules and the theorem are
 //! those of `secrecy`, and the code finds the first broken rule. It knows nothing of boards: what a board does comes in by the
-//! theorem, in the contract of `judging::judge` and nowhere else.
+//! theorem, in the contract of `judge` and nowhere else.
 #![tactic(auto)]
 
 pub mod faults;
 mod judgement;
-pub mod judging;
+mod judging;
+
+pub use judging::judge;

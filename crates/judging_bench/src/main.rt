@@ -5,7 +5,7 @@
 #![tactic(auto)]
 
 use anyhow::anyhow;
-use judge::judging::judge;
+use judge::judge;
 use levels::chain::Chain;
 use row_layout::{COLUMNS, FUNCTION};
 use std::alloc::{AllocError, Global};

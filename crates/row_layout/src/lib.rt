@@ -6,6 +6,11 @@
 
 mod layout;
 mod reading;
+mod routine;
 
-pub use layout::{COLUMNS, Column, FUNCTION, JOIN, PLACES, REGION, REMAINING};
-pub use reading::{RoutineView, cell};
+pub use layout::{
+    COLUMNS, Column, FUNCTION, JOIN, LEVELS, PLACES, REGION, REMAINING, is_place, level_columns,
+    place_columns,
+};
+pub use reading::RowsView;
+pub use routine::RoutineView;

@@ -1,5 +1,7 @@
+pub mod Columns
 pub mod Says
 pub mod Meanings
+pub mod Refused
 pub mod Setting
 pub mod Statics
 pub mod Solo

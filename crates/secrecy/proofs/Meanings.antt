@@ -1,18 +1,19 @@
 -- What the rules mean: the checks find nothing if rows are accepted, and only then.
-use Rattle.std.proofs.Common.{rules as sets, ◌≡◌, ℕ, ◌+◌, ◌*◌, ◌<◌, ◌≤◌, true, eqb, ◌⊎◌, List, length, arith, lt-ltb}
-use Rattle.std.proofs.lemmas.Bool.Decides.{Decides-eqb}
-use Rattle.verdicts.specs.Verdict.{first}
+use Rattle.std.proofs.Common.{rules as sets, ◌≡◌, ℕ, ◌+◌, ◌*◌, ◌<◌, ◌≤◌, true, eqb, List, length, arith}
+use Rattle.std.proofs.lemmas.Bool.Decides.{Decides-eqb, nat_tests}
+use Rattle.verdicts.specs.Verdict.{first, first_of}
 use Rattle.levels.specs.Order.{Meaning}
 use Rattle.machine.specs.Machine.{Machine, Kind, plain, forks, calls, rets}
-use Rattle.secrecy.specs.Rows.{Rows, rows_of, cell, places, coded, columns, region_column}
-use Rattle.secrecy.specs.Flow.{deciding, pc_level}
+use Rattle.secrecy.specs.Rows.{Rows, rows_of, cell, IsPlace, place_columns, is_among, level_columns, columns, region_column}
 use Rattle.secrecy.specs.Rules.{length_rule, held_rule, shape_rule, time_rule, flow_rule, region_rule, edge_rule, return_rule, finish_rule, edges_from, address_rule, address_rules, edge_rules, row_rule, row_rules, rules_of}
-use Rattle.secrecy.specs.Accepted.{Shape, Flows, WordRule, Accepts, RulesFor}
-use Rattle.secrecy.proofs.Says.{Says, says_like, says_rule, says_then, says_first, says_if, says_calls}
+use Rattle.secrecy.specs.Accepted.{Shape, WordRule, Accepts, RulesFor}
+use Rattle.secrecy.specs.Refusals.{Bounded, Free, Timed, Passes, Addressed}
+use Rattle.secrecy.proofs.Columns.{level_column}
+use Rattle.secrecy.proofs.Says.{Says, says_like, says_rule, says_then, says_first, says_first_of, says_if, says_calls}
 
 -- The shape of a row.
 module _ (n : ℕ) (R : Rows) where
-  shape_says : (row : ℕ) → row ≤ n → Says (shape_rule n R row) (Shape n R row)
+  pub shape_says : (row : ℕ) → row ≤ n → Says (shape_rule n R row) (Shape n R row)
   shape_says row l =
       says_rule _ _ _ (
         (λ e. record {
@@ -25,57 +26,21 @@ module _ (n : ℕ) (R : Rows) where
         λ s. search (sets, arith),
       )
 
-  -- an edge that keeps in
-  abbrev Kept : ℕ → ℕ → Type 0
-  Kept a b = (b < n) × (R.function b ≡ R.function a)
-
-  -- where a word may lead, by its kind
-  abbrev Bounded : ℕ → Kind → Type 0
-  Bounded a (plain b c) = Kept a b
-  Bounded a (forks qs b c b' c') = Kept a b × Kept a b'
-  Bounded a (calls t c) = ((t < n) × (R.function t ≡ t)) × Kept a (a + 1)
-  Bounded a (rets c) = Unit {0}
-
-module _ (R : Rows) where
-  -- a word that may stand where it does
-  abbrev Free : ℕ → Kind → Type 0
-  Free a (plain b c) = Unit {0}
-  Free a (forks qs b c b' c') = Unit {0}
-  Free a (calls t c) = R.remaining a ≡ 0
-  Free a (rets c) = R.remaining a ≡ 0
-
-  -- an edge that stays in the region, its region level aside
-  abbrev Remains : ℕ → ℕ → ℕ → Type 0
-  Remains a b c = (R.join_address b ≡ R.join_address a) × ((0 < R.remaining b) × (R.remaining a ≡ c + R.remaining b))
-
-  -- an edge that ends the region
-  abbrev Ends : ℕ → ℕ → ℕ → Type 0
-  Ends a b c = (b ≡ R.join_address a) × ((R.remaining b ≡ 0) × (R.remaining a ≡ c))
-
-  -- the time of an edge
-  abbrev Timed : ℕ → ℕ → ℕ → Type 0
-  Timed a b c = 0 < R.remaining a → Ends a b c ⊎ Remains a b c
-
 module _ {B V W : Type 0} (m : Meaning) (M : Machine B V W) (R : Rows) where
-  -- the region level of an edge that stays
-  abbrev Raises : ℕ → ℕ → Type 0
-  Raises a b = 0 < R.remaining a → 0 < R.remaining b → m.flows (pc_level m M R a) (R.region b) ≡ true
+  pub time_says : (a b c : ℕ) → Says (time_rule R a b c) (Timed R a b c)
+  time_says a b c = grind arith
 
-  -- what is asked of one edge, by whatever word
-  abbrev Passes : ℕ → ℕ → ℕ → Type 0
-  Passes a b c = Timed R a b c × (Flows m M R a b × Raises a b)
-
-  edge_says : (a b c : ℕ) → Says (edge_rule m M R a b c) (Passes a b c)
+  pub edge_says : (a b c : ℕ) → Says (edge_rule m M R a b c) (Passes m M R a b c)
   edge_says a b c =
-      says_then (time_rule R a b c) _ (grind arith)
-      (says_then (first (flow_rule m M R a b) places) (region_rule m M R a b) (says_first _ (flow_rule m M R a b) places (λ p l. grind arith)) (grind arith))
+      says_then (time_rule R a b c) _ (time_says a b c)
+      (says_then (first_of (flow_rule m M R a b) place_columns) (region_rule m M R a b) (says_first_of _ (flow_rule m M R a b) place_columns (λ p. grind arith)) (grind arith))
 
   -- what is asked of the edges of a word
   abbrev PassesAll : ℕ → Kind → Type 0
-  PassesAll a (plain b c) = Passes a b c
-  PassesAll a (forks qs b c b' c') = Passes a b c × Passes a b' c'
-  PassesAll a (calls t c) = Passes a t c
-  PassesAll a (rets c) = ((b : ℕ) → b < M.size → (d : ℕ) → M.kind b ≡ calls (R.function a) d → Passes a (b + 1) c) × (R.function a ≡ 0 → Passes a M.size c)
+  PassesAll a (plain b c) = Passes m M R a b c
+  PassesAll a (forks qs b c b' c') = Passes m M R a b c × Passes m M R a b' c'
+  PassesAll a (calls t c) = Passes m M R a t c
+  PassesAll a (rets c) = ((b : ℕ) → b < M.size → (d : ℕ) → M.kind b ≡ calls (R.function a) d → Passes m M R a (b + 1) c) × (R.function a ≡ 0 → Passes m M R a M.size c)
 
   edges_say : (a : ℕ) (k : Kind) → Says (edges_from m M R a k) (PassesAll a k)
   edges_say a (plain b c) = edge_says a b c
@@ -96,26 +61,22 @@ module _ {B V W : Type 0} (m : Meaning) (M : Machine B V W) (R : Rows) where
   word_parts : (a : ℕ) (k : Kind) → WordRule m M R a k → Standing a k
   word_parts a k w = grind arith
 
-  -- what is asked of an address on its own
-  abbrev Addressed : ℕ → Type 0
-  Addressed a = Free R a (M.kind a) × (Bounded M.size R a (M.kind a) × (R.remaining a ≡ 0 → deciding m M R a ≡ 0))
-
-  address_says : (a : ℕ) → Says (address_rule m M R a) (Addressed a)
+  pub address_says : (a : ℕ) → Says (address_rule m M R a) (Addressed m M R a)
   address_says a = grind arith
 
 -- The rows of a list.
 module _ (m : Meaning) (n : ℕ) (rows : List ℕ) where
   -- the codes of a row are held
   abbrev Coded : ℕ → Type 0
-  Coded row = (column : ℕ) → column < coded → m.held (cell n rows row column) ≡ true
+  Coded row = (column : ℕ) → is_among level_columns column ≡ true → m.held (cell n rows row column) ≡ true
 
   row_says : (row : ℕ) → row < n + 1 → Says (row_rule m n rows row) (Coded row × Shape n (rows_of n rows) row)
   row_says row l =
-      says_then (first (held_rule m n rows row) coded) (shape_rule n (rows_of n rows) row) (says_first _ (held_rule m n rows row) coded (λ column k. grind arith)) (shape_says n (rows_of n rows) row (omega arith))
+      says_then (first_of (held_rule m n rows row) level_columns) (shape_rule n (rows_of n rows) row) (says_first_of _ (held_rule m n rows row) level_columns (λ column. grind arith)) (shape_says n (rows_of n rows) row (omega arith))
 
   -- the codes of a row are the levels of its places and its region level
-  coded_from : (row : ℕ) → ((p : ℕ) → p < places → m.held ((rows_of n rows).level row p) ≡ true) → m.held ((rows_of n rows).region row) ≡ true → Coded row
-  coded_from row levels region column l = grind arith
+  coded_from : (row : ℕ) → ((p : ℕ) → IsPlace p → m.held ((rows_of n rows).level row p) ≡ true) → m.held ((rows_of n rows).region row) ≡ true → Coded row
+  coded_from row levels region column l = grind (arith, nat_tests, level_column column, levels column)
 
 module _ {B V W : Type 0} (m : Meaning) (M : Machine B V W) (rows : List ℕ) where
   abbrev R : Rows
@@ -144,8 +105,8 @@ module _ {B V W : Type 0} (m : Meaning) (M : Machine B V W) (rows : List ℕ) wh
       let edge = h.1.1.1 in (
         h.0,
         record {
-          held = λ a p l k. rw (lt-ltb p places k) ((row a (omega arith)).0 p (omega arith));
-          regions = λ a l. (row a (omega arith)).0 region_column (omega arith);
+          held = λ a p l k. grind (arith, nat_tests, level_column p, (row a (omega arith)).0 p);
+          regions = λ a l. (row a (omega arith)).0 region_column (grind (arith, nat_tests, level_column region_column));
           shapes = λ a l. (row a (omega arith)).1;
           words = λ a l. word_from m M R a (M.kind a) ((address a l).0, ((address a l).1.0, edge a l));
           low_outside = λ a l. (address a l).1.1;

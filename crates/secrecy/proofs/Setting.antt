@@ -1,5 +1,5 @@
 -- What the lemmas on couples are over, and when two boards are alike.
-use Rattle.std.proofs.Common.{◌≡◌, ℕ, ◌+◌, ◌<◌, ◌≤◌, true, false, ◌⊎◌, List, [], ◌∷◌}
+use Rattle.std.proofs.Common.{◌≡◌, ℕ, ◌+◌, ◌<◌, true, false, ◌⊎◌, List, [], ◌∷◌}
 use Rattle.levels.specs.Order.{Meaning, Laws}
 use Rattle.machine.specs.Machine.{Machine, Sound, calls}
 use Rattle.machine.specs.Run.{State}
@@ -7,7 +7,7 @@ use Rattle.machine.specs.Calls.{phase_of}
 use Rattle.machine.specs.declared.phase.Phase.{Phase}
 use Rattle.machine.specs.declared.phase.Phase.TheVariants as phase
 use Rattle.machine.specs.declared.phase.Ending.{Ending}
-use Rattle.secrecy.specs.Rows.{Rows, places}
+use Rattle.secrecy.specs.Rows.{Rows, is_place}
 use Rattle.secrecy.specs.Flow.{pc_level, level_after}
 use Rattle.secrecy.specs.Accepted.{Accepted}
 
@@ -21,10 +21,10 @@ pub record Setting (B V W : Type 0) : Type 0 where
   pub sound : Sound M
   pub R : Rows
   pub rules : Accepted m M R
-  -- levels past the last row or place are held too, and flow
+  -- levels past the last row, and where there is no place, are held too, and flow
   pub levels : (a p : ℕ) → m.held (R.level a p) ≡ true
   pub regions : (a : ℕ) → m.held (R.region a) ≡ true
-  pub beyond : (a b p : ℕ) → places ≤ p → m.flows (level_after m M R a p) (R.level b p) ≡ true
+  pub beyond : (a b p : ℕ) → is_place p ≡ false → m.flows (level_after m M R a p) (R.level b p) ≡ true
 
 module _ {B V W : Type 0} (S : Setting B V W) where
   open S use {m, M, R, observer}

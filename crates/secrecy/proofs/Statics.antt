@@ -1,8 +1,7 @@
 -- What acceptance says of rows alone, and of one word on two bodies.
-use Rattle.std.proofs.Common.{◌≡◌, ℕ, zero, suc, ◌<◌, ◌≤◌, true, false, List, [], ◌∷◌, ⊎_elim, arith}
-use Rattle.std.proofs.lemmas.Bool.{cases_lt}
+use Rattle.std.proofs.Common.{◌≡◌, ℕ, zero, suc, ◌<◌, ◌≤◌, Bool, true, false, List, [], ◌∷◌, refl, arith}
 use Rattle.machine.specs.Machine.{Kind, plain, forks, Positive, AgreeOn}
-use Rattle.secrecy.specs.Rows.{places}
+use Rattle.secrecy.specs.Rows.{is_place}
 use Rattle.secrecy.specs.Flow.{joined, join_of_all, deciding_of, deciding, pc_level, level_after}
 use Rattle.secrecy.specs.Accepted.{Edge, Stays, WordRule, Flows}
 use Rattle.secrecy.proofs.Setting.{Setting, Seen, Agree, High}
@@ -56,8 +55,12 @@ module _ {B V W : Type 0} (S : Setting B V W) where
   pc_deciding a seen = (parts_seen _ _ (regions a) (deciding_held a (M.kind a)) seen).1
 
   -- levels flow at every number, place or not
+  flow_if : (a b : ℕ) → Flows m M R a b → (p : ℕ) (t : Bool) → is_place p ≡ t → m.flows (level_after m M R a p) (R.level b p) ≡ true
+  flow_if a b flows p true e = flows p e
+  flow_if a b flows p false e = beyond a b p e
+
   flow : (a b : ℕ) → Flows m M R a b → (p : ℕ) → m.flows (level_after m M R a p) (R.level b p) ≡ true
-  flow a b flows p = ⊎_elim (flows p) (beyond a b p) (cases_lt p places)
+  flow a b flows p = flow_if a b flows p (is_place p) refl
 
   -- one word on two bodies that agree: they agree by each row that its levels flow to
   pub arrive : (a b : ℕ) (x y : B) → M.well_formed x ≡ true → M.well_formed y ≡ true → Agree S a x y → Flows m M R a b → Agree S b (M.effect a x) (M.effect a y)

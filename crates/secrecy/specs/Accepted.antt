@@ -3,7 +3,7 @@ use Rattle.std.specs.Prelude.{◌≡◌, ℕ, ◌+◌, ◌*◌, ◌<◌, ◌≤�
 use Rattle.verdicts.specs.Verdict.{fine}
 use Rattle.levels.specs.Order.{Meaning}
 use Rattle.machine.specs.Machine.{Machine, Kind, plain, forks, calls, rets}
-use Rattle.secrecy.specs.Rows.{Rows, rows_of, places, columns}
+use Rattle.secrecy.specs.Rows.{Rows, rows_of, IsPlace, columns}
 use Rattle.secrecy.specs.Flow.{deciding, pc_level, level_after}
 use Rattle.secrecy.specs.Rules.{rules_of}
 
@@ -31,7 +31,7 @@ module _ {B V W : Type 0} (m : Meaning) (M : Machine B V W) (R : Rows) where
 
   -- every level after the word at a flows to the level in row b
   abbrev pub Flows : ℕ → ℕ → Type 0
-  Flows a b = (p : ℕ) → p < places → m.flows (level_after m M R a p) (R.level b p) ≡ true
+  Flows a b = (p : ℕ) → IsPlace p → m.flows (level_after m M R a p) (R.level b p) ≡ true
 
   -- an edge of a word that goes on or forks
   pub record Edge (a b c : ℕ) : Type 0 where
@@ -64,7 +64,7 @@ module _ {B V W : Type 0} (m : Meaning) (M : Machine B V W) (R : Rows) where
   -- rows that are accepted
   pub record Accepted : Type 0 where
     -- every level is held
-    pub held : (row p : ℕ) → row ≤ M.size → p < places → m.held (R.level row p) ≡ true
+    pub held : (row p : ℕ) → row ≤ M.size → IsPlace p → m.held (R.level row p) ≡ true
     pub regions : (row : ℕ) → row ≤ M.size → m.held (R.region row) ≡ true
     -- every row, the finish row too, has its shape
     pub shapes : (row : ℕ) → row ≤ M.size → Shape M.size R row

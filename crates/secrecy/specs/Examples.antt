@@ -1,19 +1,14 @@
 -- The rules at work, on small routines under an order of two levels. Assumes nothing.
-use Rattle.std.specs.Prelude.{◌≡◌, ℕ, Bool, true, false, cond, ◌&&◌, ◌||◌, List, [], ◌∷◌, ◌++◌, length, replicate, ◌==◌, nat_le, nat_lt, slice_index_or, slice_set}
+use Rattle.std.specs.Prelude.{◌≡◌, ℕ, true, false, cond, ◌&&◌, List, [], ◌∷◌, ◌++◌, length, replicate, ◌==◌, nat_le, nat_lt, slice_index_or, slice_set}
 use Rattle.verdicts.specs.Verdict.{Verdict, fine, refused, refusal}
 use Rattle.levels.specs.Order.{Meaning}
 use Rattle.machine.specs.Machine.{Machine, Kind, plain, forks, calls, rets}
-use Rattle.secrecy.specs.Rows.{places}
+use Rattle.secrecy.specs.Rows.{place_columns, is_among, is_place}
 use Rattle.secrecy.specs.Rules.{rules_of}
 
 -- level 0 is open and level 1 is secret
 abbrev pub two : Meaning
 two = record { held = λ a. nat_lt a 2; flows = λ a b. nat_le a b && nat_lt b 2; join = λ a b. cond (nat_le a b) b a }
-
--- whether a number is one of a list
-abbrev pub among : ℕ → List ℕ → Bool
-among p [] = false
-among p (q ∷ qs) = p == q || among p qs
 
 -- words by where they lead and what they write, all of it from register 16; what they do to values is left out, since no rule
 -- looks at it
@@ -22,7 +17,7 @@ toy kinds written =
     record {
       size = length kinds;
       kind = λ a. slice_index_or kinds a (rets 4);
-      writes = λ a p. among p (written a);
+      writes = λ a. is_among (written a);
       sources = λ a p. 16 ∷ [];
       effect = λ a x. x;
       decides = λ a x. false;
@@ -30,14 +25,14 @@ toy kinds written =
       blank = λ p. 0;
       well_formed = λ x. true;
       place = λ w. w;
-      valid = λ w. nat_lt w places;
+      valid = is_place;
       put = λ w n x. x;
       get = λ w x. x w;
     }
 
 -- a row: the secret places, then region level, join address, remaining cycles and function
 abbrev pub secret_at : List ℕ → List ℕ
-secret_at [] = replicate places 0
+secret_at [] = replicate (length place_columns) 0
 secret_at (p ∷ ps) = slice_set (secret_at ps) p 1
 
 -- a row of this kind

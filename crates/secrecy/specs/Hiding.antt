@@ -1,11 +1,11 @@
 -- What acceptance promises, whole: noninterference, in which cycle counts are observed too. Assumes nothing.
-use Rattle.std.specs.Prelude.{◌≡◌, ℕ, ◌<◌, ◌≤◌, true, false, List}
+use Rattle.std.specs.Prelude.{◌≡◌, ℕ, ◌<◌, true, false, List}
 use Rattle.verdicts.specs.Verdict.{fine}
 use Rattle.levels.specs.Order.{Meaning, Laws}
 use Rattle.machine.specs.Machine.{Machine, Sound}
 use Rattle.machine.specs.Run.{State}
 use Rattle.machine.specs.Calls.{fresh}
-use Rattle.secrecy.specs.Rows.{Rows, rows_of, places}
+use Rattle.secrecy.specs.Rows.{Rows, rows_of, is_place}
 use Rattle.secrecy.specs.Rules.{rules_of}
 use Rattle.secrecy.specs.Couples.{Both, AllAllowed, SameAnswers}
 use Rattle.secrecy.specs.Regions.{Takes}
@@ -20,7 +20,7 @@ pub record Hides {B V W : Type 0} (m : Meaning) (M : Machine B V W) (R : Rows) :
 
 -- no word writes anything but the places that rows give a level to
 abbrev pub Placed : {B V W : Type 0} → Machine B V W → Type 0
-Placed M = (a p : ℕ) → places ≤ p → M.writes a p ≡ false
+Placed M = (a p : ℕ) → is_place p ≡ false → M.writes a p ≡ false
 
 -- For every order that keeps the laws, every machine that keeps to its table of writes and sources, and all rows: where the
 -- checks find nothing, every secret is hidden.

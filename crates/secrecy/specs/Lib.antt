@@ -2,6 +2,8 @@ pub mod Rows
 pub mod Flow
 pub mod Rules
 pub mod Accepted
+pub mod Edges
+pub mod Refusals
 pub mod Couples
 pub mod Regions
 pub mod Hiding

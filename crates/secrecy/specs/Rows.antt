@@ -1,14 +1,15 @@
 -- Rows of secrecy levels over one list of numbers: a row for each address of a listing, and after them the finish row.
 -- Assumes nothing.
-use Rattle.std.specs.Prelude.{ℕ, ◌+◌, ◌*◌, cond, List, nat_lt, slice_index}
+use Rattle.std.specs.Prelude.{◌≡◌, ℕ, ◌+◌, ◌*◌, Bool, true, cond, List, [], ◌∷◌, ◌++◌, ◌==◌, nat_lt, slice_index}
+use Rattle.std.specs.List.{list_any, range_with_len}
 
--- How many places there are. A row begins with a level for each of them, in the column of the place's own number: the
--- registers 0 to 31, then the flags C (32) and Z (33), and the whole memory as one place (34).
-abbrev pub places : ℕ
-places = 35
+-- The columns that hold the level of a place, in the order in which they are looked at. A place has the number of its column:
+-- the registers are 0 to 31, then come the flags C (32) and Z (33), and the whole memory as one place (34).
+unfoldable pub place_columns : List ℕ
+place_columns = range_with_len 0 35
 
--- the columns after those: the region level, the address at which the ways of the region come together, the cycles that
--- remain until then, and the function, named by where it begins
+-- The other columns: the region level, the address at which the ways of the region come together, the cycles that remain until
+-- then, and the function, named by where it begins.
 abbrev pub region_column : ℕ
 region_column = 35
 
@@ -24,9 +25,21 @@ remaining_column = 37
 abbrev pub function_column : ℕ
 function_column = 38
 
--- how many columns, from the first on, hold a code of a level
-abbrev pub coded : ℕ
-coded = 36
+-- the columns that hold the code of a level: those of places, and that of the region level
+abbrev pub level_columns : List ℕ
+level_columns = place_columns ++ region_column ∷ []
+
+-- whether a number is one of a list
+unfoldable pub is_among : List ℕ → ℕ → Bool
+is_among numbers n = list_any (λ k. k == n) numbers
+
+-- whether a number is that of a place
+abbrev pub is_place : ℕ → Bool
+is_place = is_among place_columns
+
+-- it is
+abbrev pub IsPlace : ℕ → Type 0
+IsPlace p = is_place p ≡ true
 
 -- how many columns a row has
 abbrev pub columns : ℕ
@@ -49,11 +62,11 @@ pub record Rows : Type 0 where
   -- the function that the word belongs to
   pub function : ℕ → ℕ
 
--- what the numbers of a list say; past the last place every level is 0
+-- what the numbers of a list say; where there is no place the level is 0
 abbrev pub rows_of : ℕ → List ℕ → Rows
 rows_of n rows =
     record {
-      level = λ row place. cond (nat_lt place places) (cell n rows row place) 0;
+      level = λ row place. cond (is_place place) (cell n rows row place) 0;
       region = λ row. cell n rows row region_column;
       join_address = λ row. cell n rows row join_column;
       remaining = λ row. cell n rows row remaining_column;

@@ -2,10 +2,10 @@
 -- refused, and what the refusal carries. Of a level the rules ask three things only: that its code is held, that it is 0 (outside
 -- every region), and that it flows to another. Assumes nothing.
 use Rattle.std.specs.Prelude.{ℕ, ◌+◌, ◌*◌, Bool, true, false, cond, ◌&&◌, ◌||◌, List, [], ◌∷◌, length, ◌==◌, nat_lt}
-use Rattle.verdicts.specs.Verdict.{Verdict, fine, and_then, rule, first}
+use Rattle.verdicts.specs.Verdict.{Verdict, fine, and_then, rule, first, first_of}
 use Rattle.levels.specs.Order.{Meaning}
 use Rattle.machine.specs.Machine.{Machine, Kind, plain, forks, calls, rets}
-use Rattle.secrecy.specs.Rows.{Rows, rows_of, cell, places, region_column, coded, columns}
+use Rattle.secrecy.specs.Rows.{Rows, rows_of, cell, place_columns, region_column, level_columns, columns}
 use Rattle.secrecy.specs.Flow.{deciding, pc_level, level_after}
 
 -- a check that is made only where a test holds
@@ -122,7 +122,7 @@ module _ {B V W : Type 0} (m : Meaning) (M : Machine B V W) (R : Rows) where
 
   -- one edge: first its time, then its levels, place by place
   abbrev pub edge_rule : ℕ → ℕ → ℕ → Verdict
-  edge_rule a b c = and_then (time_rule R a b c) (and_then (first (flow_rule a b) places) (region_rule a b))
+  edge_rule a b c = and_then (time_rule R a b c) (and_then (first_of (flow_rule a b) place_columns) (region_rule a b))
 
   -- a return of c cycles at a may lead to the word after b, where b calls the function that a is in
   abbrev pub return_rule : ℕ → ℕ → ℕ → Verdict
@@ -154,7 +154,7 @@ module _ {B V W : Type 0} (m : Meaning) (M : Machine B V W) (R : Rows) where
 module _ (m : Meaning) (n : ℕ) (rows : List ℕ) where
   -- the rules of a row: its codes, column by column, then its shape
   abbrev pub row_rule : ℕ → Verdict
-  row_rule row = and_then (first (held_rule m n rows row) coded) (shape_rule n (rows_of n rows) row)
+  row_rule row = and_then (first_of (held_rule m n rows row) level_columns) (shape_rule n (rows_of n rows) row)
 
   -- all rows in turn, the finish row too
   abbrev pub row_rules : Verdict

@@ -7,11 +7,18 @@
 ghost use Rattle.secrecy.specs.Accepted.{RulesStand};
 ghost use Rattle.secrecy.specs.Examples.{Examples};
 ghost use Rattle.secrecy.specs.Hiding.{HidingStands};
+ghost use Rattle.secrecy.specs.Refusals.{RefusalsStand};
 
 /// The checks of rows find nothing if the rows are accepted, and only then.
 #[tactic(auto, using(crate::proofs::Meanings::rules))]
 pub fn rules_stand()
     ensures { RulesStand }
+{}
+
+/// Where the checks of rows refuse, the rule that the refusal names is broken, and everything that comes before it is right.
+#[tactic(auto, using(crate::proofs::Refused::refused_by))]
+pub fn refusals_stand()
+    ensures { RefusalsStand }
 {}
 
 /// Accepted rows hide every secret: two boards that differ in secrets only answer all calls alike, cycle counts among them, and
@@ -22,7 +29,7 @@ pub fn hiding_stands()
 {}
 
 /// The rules at work: some small routines with their rows, accepted or refused.
-#[tactic(auto, unfolding(verdicts::specs::Verdict::first))]
+#[tactic(auto, unfolding(verdicts::specs::Verdict::first, verdicts::specs::Verdict::first_of, crate::specs::Rows::place_columns, crate::specs::Rows::is_among))]
 pub fn examples_stand()
     ensures { Examples }
 {}

@@ -1,6 +1,6 @@
 -- What a check may find: nothing wrong, or the first broken rule. Every contract of a call that may refuse speaks through
 -- these definitions, so that a refusal is always a number and what it carries. Assumes nothing.
-use Rattle.std.specs.Prelude.{ℕ, zero, suc, Bool, true, false, List, Ok, Err, Result}
+use Rattle.std.specs.Prelude.{ℕ, zero, suc, Bool, true, false, List, [], ◌∷◌, Ok, Err, Result}
 
 -- a refusal: its number in the table of refusals, and the numbers that it carries (an address, a row, a column, ..)
 pub data Refusal : Type 0 where
@@ -29,6 +29,11 @@ rule false n vs = refused (refusal n vs)
 unfoldable pub first : (ℕ → Verdict) → ℕ → Verdict
 first rules zero = fine
 first rules (suc n) = and_then (first rules n) (rules n)
+
+-- the first of the rules of a list's elements that is broken
+unfoldable pub first_of : {X : Type 0} → (X → Verdict) → List X → Verdict
+first_of rules [] = fine
+first_of rules (x ∷ xs) = and_then (rules x) (first_of rules xs)
 
 -- what a call's answer says, where `meaning` gives the refusal that each fault stands for
 abbrev pub says : {T E : Type 0} → (E → Refusal) → Result T E → Verdict

@@ -6,9 +6,9 @@
 
 ghost use Rattle.verdicts.specs.Laws.{FirstBrokenStands};
 
-/// A check over rules 0 to n - 1 finds nothing if and only if each of them holds, and else names the first that is broken.
+/// A check over rules 0 to n - 1, or over the rules of the elements of a list, finds nothing if and only if each of them holds, and
+/// else names the first that is broken.
 /// The law stands in the contract; the call itself answers nothing.
-#[tactic(auto, using(crate::proofs::Firsts::first_broken_law))]
 pub fn first_broken_stands()
     ensures { FirstBrokenStands }
 {}

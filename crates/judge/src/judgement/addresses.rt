@@ -2,9 +2,10 @@
 ghost use Rattle.std.specs.Prelude.{◌≡◌, ◌<◌, ◌&&◌, length, ◌==◌, nat_lt};
 ghost use Rattle.verdicts.specs.Verdict.{says};
 ghost use Rattle.avr.specs.Chip.{kind_of};
-ghost use Rattle.secrecy.specs.Rules.{local, keeps_function, bounded, address_rule};
+ghost use Rattle.secrecy.specs.Rules.{local, keeps_function, bounded};
 ghost use Rattle.judge.specs.Faults.{flow_refusal};
-ghost use Rattle.row_layout.specs.Views.{seen, chip};
+ghost use Rattle.judge.specs.Verdicts.{address_verdict};
+ghost use Rattle.row_layout.specs.Views.{rows_in};
 
 use crate::faults::FlowFault;
 use crate::judgement::Judgement;
@@ -23,22 +24,22 @@ fn is_local(at: u16, instruction: Instruction) -> bool
 impl<O: Order> Judgement<'_, O> {
     /// Whether an edge stays in the listing and in its function.
     fn keeps_in(&self, at: u16, next: u32) -> bool
-        ensures { result ≡ keeps_function (length self.now.routine.words.now) (seen self.now.routine) at next }
+        ensures { result ≡ keeps_function (length self.now.routine.words.now) (rows_in self.now.routine.rows) at next }
     {
         next < u32::from(self.len())
-            && self.routine.function(next) == self.routine.function(u32::from(at))
+            && self.routine.rows.function(next) == self.routine.rows.function(u32::from(at))
     }
 
     /// Whether an address is the first word of a function.
     fn is_entry(&self, target: u32) -> bool
-        ensures { result ≡ (nat_lt target (length self.now.routine.words.now) && (seen self.now.routine).function target == target) }
+        ensures { result ≡ (nat_lt target (length self.now.routine.words.now) && (rows_in self.now.routine.rows).function target == target) }
     {
-        target < u32::from(self.len()) && u32::from(self.routine.function(target)) == target
+        target < u32::from(self.len()) && u32::from(self.routine.rows.function(target)) == target
     }
 
     /// Whether every edge of an instruction keeps in, and a call goes to the first word of a function.
     fn is_bounded(&self, at: u16, instruction: Instruction) -> bool
-        ensures { result ≡ bounded (length self.now.routine.words.now) (seen self.now.routine) at (kind_of at instruction) }
+        ensures { result ≡ bounded (length self.now.routine.words.now) (rows_in self.now.routine.rows) at (kind_of at instruction) }
     {
         match instruction.route(at) {
             Route::To(next) => self.keeps_in(at, next),
@@ -51,7 +52,7 @@ impl<O: Order> Judgement<'_, O> {
     /// The rules of one address: no call or return inside a region, every edge keeps in, and nothing above level 0 decides
     /// outside.
     pub(crate) fn check_address(&self, at: u16) -> Result<(), FlowFault>
-        ensures { says flow_refusal result ≡ address_rule (O.Order.meaning self.now.order.now) (chip self.now.routine) (seen self.now.routine) at }
+        ensures { says flow_refusal result ≡ address_verdict (O.Order.meaning self.now.order.now) self.now.routine at }
     {
         let instruction = self.routine.instruction(at);
         if !self.is_outside(u32::from(at)) && !is_local(at, instruction) {

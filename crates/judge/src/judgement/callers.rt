@@ -1,10 +1,10 @@
 //! Callers: which functions the words call, and so where a return may lead.
-ghost use Rattle.std.specs.Prelude.{◌≡◌, length};
-ghost use Rattle.verdicts.specs.Verdict.{says, first, and_then};
+ghost use Rattle.std.specs.Prelude.{◌≡◌};
+ghost use Rattle.verdicts.specs.Verdict.{says};
 ghost use Rattle.avr.specs.Chip.{kind_of};
-ghost use Rattle.secrecy.specs.Rules.{return_rule, finish_rule};
-ghost use Rattle.row_layout.specs.Views.{seen, chip};
+ghost use Rattle.row_layout.specs.Views.{chip};
 ghost use Rattle.judge.specs.Faults.{flow_refusal};
+ghost use Rattle.judge.specs.Verdicts.{return_verdict, callers_verdict, returns_verdict};
 ghost use Rattle.judge.specs.Worked.{callee_of, Callees};
 
 use crate::faults::FlowFault;
@@ -37,9 +37,9 @@ impl<O: Order> Departure<'_, O> {
     /// The edge of a return to the word after one address, if what is called there is its function.
     fn check_caller(&self, caller: u16, callee: Option<u32>, cycles: u8) -> Result<(), FlowFault>
         requires { callee ≡ callee_of ((chip self.now.judgement.now.routine).kind caller) }
-        ensures { says flow_refusal result ≡ return_rule (O.Order.meaning self.now.judgement.now.order.now) (chip self.now.judgement.now.routine) (seen self.now.judgement.now.routine) self.now.at cycles caller }
+        ensures { says flow_refusal result ≡ return_verdict (O.Order.meaning self.now.judgement.now.order.now) self.now.judgement.now.routine self.now.at cycles caller }
     {
-        let function = self.judgement.routine.function(u32::from(self.at));
+        let function = self.judgement.routine.rows.function(u32::from(self.at));
         if callee == Some(u32::from(function)) {
             self.check_edge(u32::from(caller) + 1, cycles)
         } else {
@@ -50,7 +50,7 @@ impl<O: Order> Departure<'_, O> {
     /// The edges of a return to the words after all calls of its function.
     #[tactic(auto, using(verdicts::proofs::Firsts::first_none, verdicts::proofs::Firsts::first_more))]
     fn check_callers(&self, cycles: u8) -> Result<(), FlowFault>
-        ensures { says flow_refusal result ≡ first (return_rule (O.Order.meaning self.now.judgement.now.order.now) (chip self.now.judgement.now.routine) (seen self.now.judgement.now.routine) self.now.at cycles) (length self.now.judgement.now.routine.words.now) }
+        ensures { says flow_refusal result ≡ callers_verdict (O.Order.meaning self.now.judgement.now.order.now) self.now.judgement.now.routine self.now.at cycles }
     {
         let Judgement { callees, .. } = self.judgement;
         for (caller, callee) in (0..self.judgement.len()).zip(callees) {
@@ -61,10 +61,10 @@ impl<O: Order> Departure<'_, O> {
 
     /// The edges of a return: to its callers, and from function 0 to the finish row.
     pub(crate) fn check_returns(&self, cycles: u8) -> Result<(), FlowFault>
-        ensures { says flow_refusal result ≡ and_then (first (return_rule (O.Order.meaning self.now.judgement.now.order.now) (chip self.now.judgement.now.routine) (seen self.now.judgement.now.routine) self.now.at cycles) (length self.now.judgement.now.routine.words.now)) (finish_rule (O.Order.meaning self.now.judgement.now.order.now) (chip self.now.judgement.now.routine) (seen self.now.judgement.now.routine) self.now.at cycles) }
+        ensures { says flow_refusal result ≡ returns_verdict (O.Order.meaning self.now.judgement.now.order.now) self.now.judgement.now.routine self.now.at cycles }
     {
         self.check_callers(cycles)?;
-        if self.judgement.routine.function(u32::from(self.at)) == 0 {
+        if self.judgement.routine.rows.function(u32::from(self.at)) == 0 {
             self.check_edge(u32::from(self.judgement.len()), cycles)
         } else {
             Ok(())

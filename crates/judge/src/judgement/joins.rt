@@ -1,15 +1,15 @@
 //! Levels joined: the level of a place after an instruction, and of what decides where one leads.
-ghost use Rattle.std.specs.Prelude.{◌≡◌, ℕ, ◌<◌, slice_index};
+ghost use Rattle.std.specs.Prelude.{◌≡◌, map};
 ghost use Rattle.avr.specs.Chip.{kind_of};
-ghost use Rattle.secrecy.specs.Rows.{places};
+ghost use Rattle.secrecy.specs.Rows.{place_columns as columns_of_places};
 ghost use Rattle.secrecy.specs.Flow.{joined as joined_of, join_of_all, deciding_of};
-ghost use Rattle.row_layout.specs.Views.{seen};
+ghost use Rattle.row_layout.specs.Views.{rows_in};
 ghost use Rattle.judge.specs.Views.{level_by};
 
 use crate::judgement::Judgement;
-use crate::judgement::departure::LEVELS;
 use avr::table::{comes_from, deciders};
 use levels::order::Order;
+use row_layout::{PLACES, place_columns};
 use std::array;
 use words::instruction::Instruction;
 use words::route::Route;
@@ -18,27 +18,27 @@ use words::route::Route;
 impl<O: Order> Judgement<'_, O> {
     /// The join of a level and the levels of some places in a row.
     fn joined(&self, row: u32, base: u16, sources: &[u16]) -> u16
-        ensures { result ≡ joined_of (O.Order.meaning self.now.order.now) base ((seen self.now.routine).level row) sources.now }
+        ensures { result ≡ joined_of (O.Order.meaning self.now.order.now) base ((rows_in self.now.routine.rows).level row) sources.now }
     {
         sources.iter().rev().fold(
             base,
-            |level, place| self.order.join(self.routine.level(row, *place), level),
+            |level, place| self.order.join(self.routine.rows.level(row, *place), level),
         )
     }
 
     /// The join of the levels of some places in a row; 0 of none.
     fn joined_all(&self, row: u32, sources: &[u16]) -> u16
-        ensures { result ≡ join_of_all (O.Order.meaning self.now.order.now) ((seen self.now.routine).level row) sources.now }
+        ensures { result ≡ join_of_all (O.Order.meaning self.now.order.now) ((rows_in self.now.routine.rows).level row) sources.now }
     {
         match sources.split_last() {
-            Some((last, others)) => self.joined(row, self.routine.level(row, *last), others),
+            Some((last, others)) => self.joined(row, self.routine.rows.level(row, *last), others),
             None => 0,
         }
     }
 
     /// The level of what decides where an instruction leads: 0 unless it forks.
     pub(crate) fn deciding(&self, at: u16, instruction: Instruction) -> u16
-        ensures { result ≡ deciding_of (O.Order.meaning self.now.order.now) ((seen self.now.routine).level at) (kind_of at instruction) }
+        ensures { result ≡ deciding_of (O.Order.meaning self.now.order.now) ((rows_in self.now.routine.rows).level at) (kind_of at instruction) }
     {
         match instruction.route(at) {
             Route::Fork(_, _) => self.joined_all(u32::from(at), deciders(instruction).as_slice()),
@@ -48,19 +48,20 @@ impl<O: Order> Judgement<'_, O> {
 
     /// The level of a place after an instruction: where it is written, the region level joined with what its value comes from.
     fn level_after(&self, at: u16, instruction: Instruction, place: u16) -> u16
-        ensures { result ≡ level_by (O.Order.meaning self.now.order.now) (seen self.now.routine) at instruction place }
+        ensures { result ≡ level_by (O.Order.meaning self.now.order.now) (rows_in self.now.routine.rows) at instruction place }
     {
         let row = u32::from(at);
         match comes_from(instruction, place) {
-            Some(sources) => self.joined(row, self.routine.region(row), sources.as_slice()),
-            None => self.routine.level(row, place),
+            Some(sources) => self.joined(row, self.routine.rows.region(row), sources.as_slice()),
+            None => self.routine.rows.level(row, place),
         }
     }
 
-    /// The level of each place after an instruction.
-    pub(crate) fn levels_after(&self, at: u16, instruction: Instruction) -> [u16; LEVELS]
-        ensures { (p : ℕ) → p < places → slice_index result p ≡ level_by (O.Order.meaning self.now.order.now) (seen self.now.routine) at instruction p }
+    /// The level of each place after an instruction, in the order of their columns.
+    pub(crate) fn levels_after(&self, at: u16, instruction: Instruction) -> [u16; PLACES]
+        ensures { result ≡ map (level_by (O.Order.meaning self.now.order.now) (rows_in self.now.routine.rows) at instruction) columns_of_places }
     {
-        array::from_fn(|place| self.level_after(at, instruction, place as u16))
+        let columns = place_columns();
+        array::from_fn(|index| self.level_after(at, instruction, columns[index]))
     }
 }

@@ -2,7 +2,7 @@
 ghost use Rattle.std.specs.Prelude.{◌≡◌, ◌<◌, ◌≤◌, length, IfOk};
 ghost use Rattle.verdicts.specs.Verdict.{says};
 ghost use Rattle.secrecy.specs.Rules.{length_rule, inside, outside};
-ghost use Rattle.row_layout.specs.Views.{seen};
+ghost use Rattle.row_layout.specs.Views.{rows_in};
 ghost use Rattle.judge.specs.Faults.{row_refusal};
 
 use crate::faults::RowFault;
@@ -15,13 +15,13 @@ impl<'j, O> Judgement<'j, O> {
     pub(crate) fn try_new(words: &'j [u16], rows: &'j [u16], order: &'j O) -> Result<Self, RowFault>
         requires { length words.now ≤ 1024 }
         ensures answer { says row_refusal result ≡ length_rule (length words.now) rows.now }
-        ensures routine { IfOk result (λ made. (made.routine.words.now ≡ words.now) × (made.routine.rows.now ≡ rows.now)) }
+        ensures routine { IfOk result (λ made. (made.routine.words.now ≡ words.now) × (made.routine.rows.rows.now ≡ rows.now)) }
         ensures order { IfOk result (λ made. made.order.now ≡ order.now) }
     {
         if rows.len() != (words.len() + 1) * COLUMNS {
             return Err(RowFault::Count);
         }
-        let routine = RoutineView { words, rows };
+        let routine = RoutineView::new(words, rows);
         Ok(Judgement {
             routine,
             order,
@@ -32,6 +32,7 @@ impl<'j, O> Judgement<'j, O> {
     /// How many words there are, which is also the finish row's own number.
     pub(crate) fn len(&self) -> u16
         ensures value { result ≡ length self.now.routine.words.now }
+        ensures rows { result ≡ self.now.routine.rows.words }
         ensures few { result ≤ 1024 }
     {
         self.routine.words.len() as u16
@@ -39,15 +40,15 @@ impl<'j, O> Judgement<'j, O> {
 
     /// Whether a row is inside a region.
     pub(crate) fn is_inside(&self, row: u32) -> bool
-        ensures { result ≡ inside (seen self.now.routine) row }
+        ensures { result ≡ inside (rows_in self.now.routine.rows) row }
     {
-        self.routine.remaining(row) > 0
+        self.routine.rows.remaining(row) > 0
     }
 
     /// Whether a row is outside every region.
     pub(crate) fn is_outside(&self, row: u32) -> bool
-        ensures { result ≡ outside (seen self.now.routine) row }
+        ensures { result ≡ outside (rows_in self.now.routine.rows) row }
     {
-        self.routine.remaining(row) == 0
+        self.routine.rows.remaining(row) == 0
     }
 }

@@ -1,9 +1,8 @@
 //! The passes over a routine: all rows, all addresses, all edges.
-ghost use Rattle.std.specs.Prelude.{◌≡◌, length};
+ghost use Rattle.std.specs.Prelude.{◌≡◌};
 ghost use Rattle.verdicts.specs.Verdict.{says};
-ghost use Rattle.secrecy.specs.Rules.{row_rules, address_rules, edges_from, edge_rules};
-ghost use Rattle.row_layout.specs.Views.{seen, chip};
 ghost use Rattle.judge.specs.Faults.{row_refusal, flow_refusal};
+ghost use Rattle.judge.specs.Verdicts.{rows_verdict, addresses_verdict, word_verdict, edges_verdict};
 
 use crate::faults::{FlowFault, RowFault};
 use crate::judgement::Judgement;
@@ -15,7 +14,7 @@ impl<O: Order> Judgement<'_, O> {
     /// All rows in turn, the finish row too.
     #[tactic(auto, using(verdicts::proofs::Firsts::first_none, verdicts::proofs::Firsts::first_more))]
     pub(crate) fn check_rows(&self) -> Result<(), RowFault>
-        ensures { says row_refusal result ≡ row_rules (O.Order.meaning self.now.order.now) (length self.now.routine.words.now) self.now.routine.rows.now }
+        ensures { says row_refusal result ≡ rows_verdict (O.Order.meaning self.now.order.now) self.now.routine }
     {
         for row in 0..=self.len() {
             self.check_row(row)?;
@@ -26,7 +25,7 @@ impl<O: Order> Judgement<'_, O> {
     /// All addresses in turn.
     #[tactic(auto, using(verdicts::proofs::Firsts::first_none, verdicts::proofs::Firsts::first_more))]
     pub(crate) fn check_addresses(&self) -> Result<(), FlowFault>
-        ensures { says flow_refusal result ≡ address_rules (O.Order.meaning self.now.order.now) (chip self.now.routine) (seen self.now.routine) }
+        ensures { says flow_refusal result ≡ addresses_verdict (O.Order.meaning self.now.order.now) self.now.routine }
     {
         for at in 0..self.len() {
             self.check_address(at)?;
@@ -45,7 +44,7 @@ impl<O: Order> Judgement<'_, O> {
             at,
             levels: self.levels_after(at, instruction),
             pc_level: self.order.join(
-                self.routine.region(u32::from(at)),
+                self.routine.rows.region(u32::from(at)),
                 self.deciding(at, instruction),
             ),
         }
@@ -53,7 +52,7 @@ impl<O: Order> Judgement<'_, O> {
 
     /// The edges of the word at an address, in their order.
     fn check_edges_from(&self, at: u16) -> Result<(), FlowFault>
-        ensures { says flow_refusal result ≡ edges_from (O.Order.meaning self.now.order.now) (chip self.now.routine) (seen self.now.routine) at ((chip self.now.routine).kind at) }
+        ensures { says flow_refusal result ≡ word_verdict (O.Order.meaning self.now.order.now) self.now.routine at }
     {
         let instruction = self.routine.instruction(at);
         let departure = self.depart(at);
@@ -71,7 +70,7 @@ impl<O: Order> Judgement<'_, O> {
     /// All edges in turn, by the address that they leave.
     #[tactic(auto, using(verdicts::proofs::Firsts::first_none, verdicts::proofs::Firsts::first_more))]
     pub(crate) fn check_edges(&self) -> Result<(), FlowFault>
-        ensures { says flow_refusal result ≡ edge_rules (O.Order.meaning self.now.order.now) (chip self.now.routine) (seen self.now.routine) }
+        ensures { says flow_refusal result ≡ edges_verdict (O.Order.meaning self.now.order.now) self.now.routine }
     {
         for at in 0..self.len() {
             self.check_edges_from(at)?;

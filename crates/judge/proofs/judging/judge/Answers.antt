@@ -1,4 +1,4 @@
-use Rattle.std.proofs.Common.{◌≡◌, ℕ, List, length, Ok, Err, Result, sym, refl, ap, ◌∙◌}
+use Rattle.std.proofs.Common.{◌≡◌, ℕ, List, length, Ok, Err, IfErr, Result, sym, refl, ap, ◌∙◌}
 use Rattle.verdicts.specs.Verdict.{says, fine}
 use Rattle.verdicts.proofs.Firsts.{and_fine, then-on}
 use Rattle.avr.specs.Chip.{avr}
@@ -11,7 +11,9 @@ use Rattle.secrecy.proofs.Meanings.{rules}
 use Rattle.judge.specs.declared.faults.JudgeFault.{JudgeFault}
 use Rattle.judge.specs.Faults.{judge_refusal}
 use Rattle.judge.specs.Judgement.{judgement_of, Exactly}
+use Rattle.judge.specs.Refused.{RefusedBy}
 use Rattle.judge.proofs.Placed.{placed}
+use Rattle.judge.proofs.Refused.{refused_by}
 use Rattle.judge.proofs.judging.judge.Goals as goal
 
 -- an answer that says nothing is acceptance
@@ -26,6 +28,10 @@ module _ (m : Meaning) (ws rows : List ℕ) where
     only_if = λ a. let p = and_fine _ _ (sym e ∙ ap (says judge_refusal) a) in (p.0, (rules m (avr ws) rows).0 p.1);
   }
 
+  refuses : (r : Result (Unit {0}) JudgeFault) → says judge_refusal r ≡ judgement_of m ws rows → IfErr r (λ fault. RefusedBy m ws rows (judge_refusal fault))
+  refuses (Ok x) e = tt
+  refuses (Err f) e = refused_by m ws rows (judge_refusal f) (sym e)
+
   hides : Laws m → (r : Result (Unit {0}) JudgeFault) → says judge_refusal r ≡ judgement_of m ws rows → r ≡ Ok tt → Hides m (avr ws) (rows_of (length ws) rows)
   hides laws r e a = hiding m laws (avr ws) (sound ws) (placed ws) rows (and_fine _ _ (sym e ∙ ap (says judge_refusal) a)).1
 
@@ -35,6 +41,7 @@ returns g c =
     let e = c.find_fault.ensures in
     record {
       answer = e;
+      refuses = refuses m c.args.words.now c.args.rows.now c.find_fault.result e;
       accepts = accepts m c.args.words.now c.args.rows.now c.find_fault.result e;
       hides = hides m c.args.words.now c.args.rows.now (g.met.O.Order.lawful c.args.order.now) c.find_fault.result e;
     }

@@ -1,12 +1,12 @@
 use Rattle.std.proofs.Common.{◌≡◌, reverse, rules, ◌∙◌}
 use Rattle.std.specs.List.{fold}
-use Rattle.row_layout.specs.Views.{seen}
+use Rattle.row_layout.specs.Views.{rows_in}
 use Rattle.judge.proofs.Joins.{folded}
 use Rattle.judge.proofs.judgement.Judgement.joined.Goals as goal
 
 pub returns : goal.returns
 returns g c =
     let m = g.O.Order.meaning c.args.self.now.order.now in
-    let level = (seen c.args.self.now.routine).level c.args.row in
+    let level = (rows_in c.args.self.now.routine.rows).level c.args.row in
     let e : c.fold.result ≡ fold (λ a q. m.join (level q) a) c.args.base (reverse c.args.sources.now) = search rules in
     e ∙ folded m level c.args.base c.args.sources.now

@@ -1,10 +1,10 @@
-use Rattle.row_layout.specs.Views.{seen}
+use Rattle.row_layout.specs.Views.{rows_in}
 use Rattle.judge.proofs.Joins.{from_last}
 use Rattle.judge.proofs.judgement.Judgement.joined_all.Goals as goal
 
 pub returns-in-Some : goal.returns-in-Some
 returns-in-Some g c =
-    let level = (seen c.args.self.now.routine).level c.args.row in
+    let level = (rows_in c.args.self.now.routine.rows).level c.args.row in
     let known = c.level.ensures in
     let all = c.in-Some.ensures.cases in
     let e = from_last (g.O.Order.meaning c.args.self.now.order.now) level c.in-Some.others.now c.in-Some.last.now in

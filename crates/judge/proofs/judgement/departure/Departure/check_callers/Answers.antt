@@ -2,7 +2,7 @@ use Rattle.std.proofs.Common.{◌≡◌, ◌+◌, ◌<◌, length, drop, suc, No
 use Rattle.verdicts.specs.Verdict.{fine}
 use Rattle.verdicts.proofs.Firsts.{first_more}
 use Rattle.secrecy.specs.Rules.{return_rule}
-use Rattle.row_layout.specs.Views.{seen, chip}
+use Rattle.row_layout.specs.Views.{rows_in, chip}
 use Rattle.judge.specs.Faults.{flow_refusal}
 use Rattle.judge.proofs.Checks.{stopped}
 use Rattle.judge.proofs.judgement.departure.Departure.check_callers.Goals as goal
@@ -19,8 +19,8 @@ loop-caller-preserved g c =
     let further : c.next.new.self.a.start ≡ suc start = omega arith in
     let next_start : c.next.new.self.a.start ≡ start + 1 = omega arith in
     let rest : c.next.new.self.b.rest.now ≡ drop (suc start) judgement.callees = cc in
-    let met : return_rule (g.O.Order.meaning judgement.order.now) (chip judgement.routine) (seen judgement.routine) departure.at c.args.cycles start ≡ fine = rw (sym same) (sym c.in_ok-check_caller.ensures) in
-    let on = first_more (return_rule (g.O.Order.meaning judgement.order.now) (chip judgement.routine) (seen judgement.routine) departure.at c.args.cycles) start c.loop-caller.invariant.5 met in
+    let met : return_rule (g.O.Order.meaning judgement.order.now) (chip judgement.routine) (rows_in judgement.routine.rows) departure.at c.args.cycles start ≡ fine = rw (sym same) (sym c.in_ok-check_caller.ensures) in
+    let on = first_more (return_rule (g.O.Order.meaning judgement.order.now) (chip judgement.routine) (rows_in judgement.routine.rows) departure.at c.args.cycles) start c.loop-caller.invariant.5 met in
     ((tt, tt), tt, (cc), (omega arith), rw further rest, rw next_start on)
 
 pub returns-in_err-check_caller : goal.returns-in_err-check_caller

@@ -1,7 +1,7 @@
 use Rattle.std.proofs.Common.{◌≡◌, ◌≤◌, drop, length}
 use Rattle.verdicts.specs.Verdict.{first, fine}
 use Rattle.secrecy.specs.Rules.{return_rule}
-use Rattle.row_layout.specs.Views.{seen, chip}
+use Rattle.row_layout.specs.Views.{rows_in, chip}
 use Rattle.judge.proofs.judgement.departure.Departure.check_callers.Given as goal
 
 -- the addresses that are left, whom they call, and nothing wrong with the others
@@ -12,4 +12,4 @@ invariant-loop-caller g l =
     × (l.caller-iterator.a.end ≡ length l.self.judgement.now.routine.words.now)
     × (l.caller-iterator.a.start ≤ length l.self.judgement.now.routine.words.now)
     × (l.caller-iterator.b.rest.now ≡ drop l.caller-iterator.a.start l.self.judgement.now.callees)
-    × (first (return_rule (g.O.Order.meaning l.self.judgement.now.order.now) (chip l.self.judgement.now.routine) (seen l.self.judgement.now.routine) l.self.at l.cycles) l.caller-iterator.a.start ≡ fine)
+    × (first (return_rule (g.O.Order.meaning l.self.judgement.now.order.now) (chip l.self.judgement.now.routine) (rows_in l.self.judgement.now.routine.rows) l.self.at l.cycles) l.caller-iterator.a.start ≡ fine)
