@@ -18,7 +18,10 @@ impl fmt::Display for Cycles {
                 let aside = self.instruction.cycles(true);
                 write!(f, "cycles {on} or {aside}")
             }
-            Route::To(_) | Route::Call(_) | Route::Return => write!(f, "cycles {on}"),
+            Route::To(_) | Route::Jump(_) | Route::Call(_) | Route::Return => write!(
+                f,
+                "cycles {on}"
+            ),
         }
     }
 }
@@ -59,7 +62,7 @@ impl Next {
 impl fmt::Display for Next {
     fn fmt<W: fmt::Write>(&self, f: &mut fmt::Formatter<W>) -> fmt::Result {
         match self.route {
-            Route::To(to) => {
+            Route::To(to) | Route::Jump(to) => {
                 let to = self.address(to);
                 write!(f, "next {to}")
             }

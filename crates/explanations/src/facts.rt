@@ -29,7 +29,7 @@ impl Refusal<'_> {
                     || self.routine.stays(at, next, straight);
                 instruction.cycles(aside == next && (on != next || in_time))
             }
-            Route::To(_) | Route::Call(_) | Route::Return => straight,
+            Route::To(_) | Route::Jump(_) | Route::Call(_) | Route::Return => straight,
         }
     }
 

@@ -135,7 +135,7 @@ impl Board<'_, '_> {
                     self.go_to(limit, u32::from(self.at) + 1, on)
                 }
             }
-            Way::Leave(Leave::Jump(to)) => self.go_to(limit, to, on),
+            Way::Leave(Leave::Jump(to)) => self.go_to(limit, to, aside),
             Way::Leave(Leave::Call(to)) => self.call(limit, to, aside),
             Way::Leave(Leave::Return) => self.go_back(limit, aside),
         }
