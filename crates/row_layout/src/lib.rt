@@ -8,4 +8,4 @@ mod layout;
 mod reading;
 
 pub use layout::{COLUMNS, Column, FUNCTION, JOIN, PLACES, REGION, REMAINING};
-pub use reading::{RoutineView, cell};
+pub use reading::RoutineView;

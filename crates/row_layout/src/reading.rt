@@ -8,19 +8,6 @@ ghost use Rattle.row_layout.specs.Views.{seen};
 use crate::layout::{COLUMNS, FUNCTION, JOIN, PLACES, REGION, REMAINING};
 use words::instruction::Instruction;
 
-/// The number in one column of one row, where the rows are those of `words` words and the finish row. Past the finish row, and
-/// where numbers are missing, there is 0.
-// Beside the view's method, for whoever has the count of the words and not the words.
-pub fn cell(words: usize, rows: &[u16], row: u32, column: u16) -> u16
-    ensures { result ≡ cell_of words rows.now row column }
-{
-    if row as usize > words {
-        return 0;
-    }
-    let index = row as usize * COLUMNS + usize::from(column);
-    rows.get(index).copied().unwrap_or(0)
-}
-
 /// A routine as it is lent: its words, and the numbers of its rows, one row for each word and after them the finish row. Any words and
 /// any numbers may be read: past the last word there is a nop, and past the finish row, past the last place and where numbers are
 /// missing, there is 0.
@@ -44,7 +31,11 @@ impl RoutineView<'_> {
     pub fn cell(&self, row: u32, column: u16) -> u16
         ensures { result ≡ cell_of (length self.now.words.now) self.now.rows.now row column }
     {
-        cell(self.words.len(), self.rows, row, column)
+        if row as usize > self.words.len() {
+            return 0;
+        }
+        let index = row as usize * COLUMNS + usize::from(column);
+        self.rows.get(index).copied().unwrap_or(0)
     }
 
     /// The level of a place in a row.
