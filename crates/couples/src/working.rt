@@ -8,9 +8,10 @@ ghost use Rattle.board.specs.States.{words_of, Lent};
 ghost use Rattle.couples.specs.Calls.{Answered, sides};
 
 use crate::answers::{Answer, Answers};
-pub use avr::calls::Call;
+use avr::location::Location;
 use board::board::Board;
 use board::fault::MakingFault;
+pub use machine::call::Call;
 
 /// Two boards that are given one call after another.
 #[derive(Drop)]
@@ -40,7 +41,7 @@ impl<'w, 'm, 'n> Couple<'w, 'm, 'n> {
     }
 
     /// Works a call on both boards, the left one first, and gives their answers.
-    pub fn work(&mut self, call: Call) -> Answers
+    pub fn work(&mut self, call: Call<Location>) -> Answers
         ensures answers { Answered call self.old.left self.old.right self.new.left self.new.right result }
         ensures lent { (Lent self.old.left self.new.left) × (Lent self.old.right self.new.right) }
     {
@@ -50,7 +51,7 @@ impl<'w, 'm, 'n> Couple<'w, 'm, 'n> {
 
 /// Works a call on both boards, the left one first, and gives their answers.
 // Beside the method, for boards that stand in no couple.
-pub fn work(call: Call, left: &mut Board<'_, '_>, right: &mut Board<'_, '_>) -> Answers
+pub fn work(call: Call<Location>, left: &mut Board<'_, '_>, right: &mut Board<'_, '_>) -> Answers
     ensures answers { Answered call left.old right.old left.new right.new result }
     ensures lent { (Lent left.old left.new) × (Lent right.old right.new) }
 {

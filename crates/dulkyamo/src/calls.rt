@@ -21,7 +21,7 @@ impl fmt::Display for Place {
 /// A call as routine files write it: one byte where a put gives both boards the same.
 // An order has a wrapper of this name too, in `naming`: each is one text of another type.
 #[derive(Clone, Copy)]
-pub struct Written(pub Call);
+pub struct Written(pub Call<Location>);
 
 impl fmt::Display for Written {
     fn fmt<W: fmt::Write>(&self, f: &mut fmt::Formatter<W>) -> fmt::Result {
@@ -51,7 +51,7 @@ impl fmt::Display for Written {
 /// Why both boards refuse a call, for whoever wrote it.
 #[derive(Clone, Copy)]
 struct Refusal {
-    call: Call,
+    call: Call<Location>,
     fault: CallFault,
 }
 
@@ -79,7 +79,7 @@ impl fmt::Display for Refusal {
 /// What a call came to: that it is done, a refusal where both boards refuse alike, or both answers.
 #[derive(Clone, Copy)]
 struct Outcome {
-    call: Call,
+    call: Call<Location>,
     answers: Answers,
 }
 
@@ -101,7 +101,7 @@ impl fmt::Display for Outcome {
 /// Works a call on both boards, and prints what it came to.
 pub(crate) fn work_call(
     rt: &HostRuntime,
-    call: Call,
+    call: Call<Location>,
     couple: &mut Couple<'_, '_, '_>,
 ) -> io::Result<()> {
     let answers = couple.work(call);

@@ -1,5 +1,6 @@
 //! The steps of a routine, in order.
 use crate::calls::{Written, work_call};
+use avr::location::Location;
 use board::fault::MakingFault;
 use couples::working::{Call, Couple};
 use orders::making::Made;
@@ -37,7 +38,7 @@ impl Job<'_, '_> {
 }
 
 /// Prints that a call has no boards, since there are none of the words.
-fn print_boardless(rt: &HostRuntime, call: Call, fault: MakingFault) -> io::Result<()> {
+fn print_boardless(rt: &HostRuntime, call: Call<Location>, fault: MakingFault) -> io::Result<()> {
     let written = Written(call);
     let number = fault.number();
     println!(rt; "{written}: no board, since the words are refused {number}")
