@@ -1,4 +1,5 @@
 pub mod Cores
 pub mod Steps
+pub mod Moves
 pub mod States
 pub mod Faults

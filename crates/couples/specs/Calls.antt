@@ -1,12 +1,10 @@
 -- What a call on both boards does. Assumes nothing.
-use Rattle.std.specs.Prelude.{◌≡◌}
 use Rattle.machine.specs.Calls as calls
 use Rattle.avr.specs.declared.location.Location.{Location}
 use Rattle.avr.specs.Core.{Core}
-use Rattle.avr.specs.Chip.{avr}
 use Rattle.secrecy.specs.Couples.{Both, clears, runs, reads, puts, left, right}
 use Rattle.board.specs.declared.board.Board.{Board}
-use Rattle.board.specs.States.{board_of, words_of, after}
+use Rattle.board.specs.States.{board_of, Works}
 use Rattle.couples.specs.declared.answers.Answers.{Answers}
 use Rattle.machine.specs.declared.call.Call.{Call}
 use Rattle.machine.specs.declared.call.Call.TheVariants.{Clear, Put, Run, Read}
@@ -19,10 +17,6 @@ both_of Clear = clears
 both_of (Put w x y) = puts w x y
 both_of (Run limit) = runs limit
 both_of (Read w) = reads w
-
--- one board goes from b to b' and answers as the call makes it
-abbrev pub Works : calls.Call Location → Board → Board → calls.Answer → Type 0
-Works call b b' answer = after b' answer ≡ calls.does (avr (words_of b)) call (board_of b)
 
 -- each of two boards does its side of a call and answers by it
 pub record Answered (call : Call Location) (b c b' c' : Board) (answers : Answers) : Type 0 where

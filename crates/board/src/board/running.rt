@@ -1,18 +1,16 @@
 //! Runs: steps up to a limit of cycles.
-ghost use Rattle.std.specs.Prelude.{◌≡◌, ◌+◌, true, false, length, nat_lt};
-ghost use Rattle.std.specs.ControlFlow.{MatchControlFlow};
-ghost use Rattle.machine.specs.declared.phase.Ending.TheVariants.{Spent};
-ghost use Rattle.machine.specs.Run.{landed, step as step_of, Runs};
+ghost use Rattle.std.specs.Prelude.{◌≡◌, ◌+◌, length, nat_lt};
+ghost use Rattle.machine.specs.Run.{step as step_of, Runs};
 ghost use Rattle.machine.specs.Laws.{Counts};
-ghost use Rattle.machine.specs.Calls.{ends, does, run as run_call};
+ghost use Rattle.machine.specs.Calls.{ends, run as run_call};
 ghost use Rattle.avr.specs.Chip.{instruction_of, avr};
 ghost use Rattle.cells.specs.declared.cell.Leave.TheVariants.{Jump, Call, Return};
 ghost use Rattle.cells.specs.declared.cell.Way.TheVariants.{On, Leave as Leaving};
-ghost use Rattle.board.specs.Cores.{core_of};
 ghost use Rattle.cells.specs.Works.{Fits};
 ghost use Rattle.cells.specs.Cells.{Shows};
-ghost use Rattle.board.specs.Steps.{step_in};
-ghost use Rattle.board.specs.States.{state_of, board_of, held_of, words_of, stepped, after, Lent};
+ghost use Rattle.board.specs.Moves.{step_by_way, landing_of};
+ghost use Rattle.board.specs.Steps.{Paid};
+ghost use Rattle.board.specs.States.{state_of, words_of, stepped, Works, Lent};
 
 use crate::board::Board;
 use cells::cell::{Cell, Leave, Way};
@@ -34,7 +32,7 @@ impl Board<'_, '_> {
     /// The count after so many cycles more, unless they pass the limit.
     // The limit is the run's and the cycles are the word's: a struct of both would be made anew for each word.
     fn paid(&self, limit: u32, cycles: u8) -> ControlFlow<Ending, u32>
-        ensures { MatchControlFlow result (λ count. (nat_lt limit (self.now.count + cycles) ≡ false) × (count ≡ self.now.count + cycles)) (λ ending. (nat_lt limit (self.now.count + cycles) ≡ true) × (ending ≡ Spent limit)) }
+        ensures { Paid limit (self.now.count + cycles) result }
     {
         if u64::from(limit) < u64::from(self.count) + u64::from(cycles) {
             return ControlFlow::Break(Ending::Spent(limit));
@@ -51,7 +49,7 @@ impl Board<'_, '_> {
 
     /// Goes to an address if it is in the listing.
     fn land(&mut self, to: u32) -> ControlFlow<Ending>
-        ensures state { stepped result (state_of self.new) ≡ landed (length (words_of self.old)) self.old.at to (held_of self.old) self.old.count (core_of self.old.chip) }
+        ensures state { stepped result (state_of self.new) ≡ landing_of self.old to }
         ensures same { Lent self.old self.new }
         ensures count { self.new.count ≡ self.old.count }
     {
@@ -66,7 +64,7 @@ impl Board<'_, '_> {
     /// A step by a word that does its work and goes on.
     fn go_on(&mut self, limit: u32, work: Work, cycles: u8) -> ControlFlow<Ending>
         requires { Fits work }
-        ensures state { stepped result (state_of self.new) ≡ step_in (length (words_of self.old)) limit (On work) cycles cycles (state_of self.old) }
+        ensures state { stepped result (state_of self.new) ≡ step_by_way self.old limit (On work) cycles }
         ensures same { Lent self.old self.new }
     {
         let count = self.paid(limit, cycles)?;
@@ -78,7 +76,7 @@ impl Board<'_, '_> {
 
     /// A step by a word that only goes to an address.
     fn go_to(&mut self, limit: u32, to: u32, cycles: u8) -> ControlFlow<Ending>
-        ensures state { stepped result (state_of self.new) ≡ step_in (length (words_of self.old)) limit (Leaving (Jump to)) cycles cycles (state_of self.old) }
+        ensures state { stepped result (state_of self.new) ≡ step_by_way self.old limit (Leaving (Jump to)) cycles }
         ensures same { Lent self.old self.new }
     {
         self.count = self.paid(limit, cycles)?;
@@ -94,7 +92,7 @@ impl Board<'_, '_> {
 
     /// A step by a word that calls.
     fn call(&mut self, limit: u32, to: u32, cycles: u8) -> ControlFlow<Ending>
-        ensures state { stepped result (state_of self.new) ≡ step_in (length (words_of self.old)) limit (Leaving (Call to)) cycles cycles (state_of self.old) }
+        ensures state { stepped result (state_of self.new) ≡ step_by_way self.old limit (Leaving (Call to)) cycles }
         ensures same { Lent self.old self.new }
     {
         let count = self.paid(limit, cycles)?;
@@ -108,7 +106,7 @@ impl Board<'_, '_> {
 
     /// A step by a word that returns.
     fn go_back(&mut self, limit: u32, cycles: u8) -> ControlFlow<Ending>
-        ensures state { stepped result (state_of self.new) ≡ step_in (length (words_of self.old)) limit (Leaving Return) cycles cycles (state_of self.old) }
+        ensures state { stepped result (state_of self.new) ≡ step_by_way self.old limit (Leaving Return) cycles }
         ensures same { Lent self.old self.new }
     {
         self.count = self.paid(limit, cycles)?;
@@ -156,7 +154,7 @@ impl Board<'_, '_> {
     /// Goes on up to a limit of cycles, unless the board has ended or is stopped.
     // Apart from `run`, which adds what is true of every machine: that the count is a sum.
     fn carry_on(&mut self, limit: u32) -> Ending
-        ensures state { after self.new (ends result) ≡ does (avr (words_of self.old)) (run_call limit) (board_of self.old) }
+        ensures state { Works (run_call limit) self.old self.new (ends result) }
         ensures same { Lent self.old self.new }
     {
         match self.phase {
@@ -172,7 +170,7 @@ impl Board<'_, '_> {
     /// Runs up to a limit of cycles. An ended or stopped board stays as it is and repeats its ending. The count of a run is the
     /// sum of the cycles of the words that it carries out.
     pub fn run(&mut self, limit: u32) -> Ending
-        ensures state { after self.new (ends result) ≡ does (avr (words_of self.old)) (run_call limit) (board_of self.old) }
+        ensures state { Works (run_call limit) self.old self.new (ends result) }
         ensures same { Lent self.old self.new }
         ensures counts { Counts (avr (words_of self.old)) limit (state_of self.old) }
     {
