@@ -93,7 +93,7 @@ fn order() -> anyhow::Result<Chain> {
 }
 
 /// Judges one routine of each shape, and prints the verdicts: always the same lines.
-pub fn show(rt: &HostRuntime) -> anyhow::Result<()> {
+pub(crate) fn show(rt: &HostRuntime) -> anyhow::Result<()> {
     let order = order()?;
     for shape in SHAPES {
         let words = words(rt.alloc(), shape, LONGEST)?;
@@ -126,7 +126,7 @@ fn measure_one(
 }
 
 /// Judges a routine of each shape and of three lengths so many times, and prints how long one judgement took.
-pub fn measure(rt: &HostRuntime, times: u32) -> anyhow::Result<()> {
+pub(crate) fn measure(rt: &HostRuntime, times: u32) -> anyhow::Result<()> {
     let order = order()?;
     for shape in SHAPES {
         for len in [LONGEST / 4, LONGEST / 2, LONGEST] {

@@ -5,11 +5,11 @@
 //! each shape, of three lengths, N times and prints how long that took.
 #![tactic(auto)]
 
-use anyhow::anyhow;
-use std::env;
-
 mod judging;
 mod running;
+
+use anyhow::anyhow;
+use std::env;
 
 /// What is to be measured.
 #[derive(Clone, Copy)]

@@ -76,7 +76,7 @@ fn play(board: &mut Board, rounds: u16) -> Result<(u32, u8), CallFault> {
 }
 
 /// One short run, and what came of it: always the same line.
-pub fn show(rt: &HostRuntime) -> anyhow::Result<()> {
+pub(crate) fn show(rt: &HostRuntime) -> anyhow::Result<()> {
     let mut memory = [0u8; 65536];
     let made = Board::try_new(&ROUTINE, &mut memory);
     let mut board = made.map_err(|_| anyhow!("no board can be made"))?;
@@ -87,7 +87,7 @@ pub fn show(rt: &HostRuntime) -> anyhow::Result<()> {
 }
 
 /// So many long runs, and how fast they went.
-pub fn measure(rt: &HostRuntime, runs: u32) -> anyhow::Result<()> {
+pub(crate) fn measure(rt: &HostRuntime, runs: u32) -> anyhow::Result<()> {
     let mut memory = [0u8; 65536];
     let made = Board::try_new(&ROUTINE, &mut memory);
     let mut board = made.map_err(|_| anyhow!("no board can be made"))?;
