@@ -22,14 +22,15 @@ impl Refusal<'_> {
         ensures { result ≡ cycles_to (seen self.now.routine) at next (instruction_of self.now.routine.words.now at) }
     {
         let instruction = self.routine.instruction(at);
-        let straight = instruction.cycles(false);
         match instruction.route(at) {
+            Route::To(_) => instruction.cycles(false),
             Route::Fork(on, aside) => {
+                let straight = instruction.cycles(false);
                 let in_time = self.routine.leaves(at, next, straight)
                     || self.routine.stays(at, next, straight);
                 instruction.cycles(aside == next && (on != next || in_time))
             }
-            Route::To(_) | Route::Jump(_) | Route::Call(_) | Route::Return => straight,
+            Route::Jump(_) | Route::Call(_) | Route::Return => instruction.cycles(true),
         }
     }
 

@@ -3,7 +3,7 @@ use Rattle.std.specs.Prelude.{ℕ, ◌+◌, ℤ, pos, negsuc, ◌+ℤ◌}
 use Rattle.words.specs.declared.instruction.BinaryOp.{BinaryOp}
 use Rattle.words.specs.declared.instruction.BinaryOp.TheVariants as binary
 use Rattle.words.specs.declared.instruction.Instruction.{Instruction}
-use Rattle.words.specs.declared.instruction.Instruction.TheVariants.{Binary, Immediate, Wide, Movw, Unary, Load, Store, LoadDisplaced, StoreDisplaced, Rjmp, Rcall, Branch, Ret, Clc, Nop}
+use Rattle.words.specs.declared.instruction.Instruction.TheVariants.{Binary, Rjmp, Rcall, Branch, Ret}
 use Rattle.words.specs.declared.route.Route.{Route}
 use Rattle.words.specs.declared.route.Route.TheVariants.{To, Jump, Fork, Call, Return}
 
@@ -18,33 +18,14 @@ target at k = landing (pos (at + 1) +ℤ k)
 
 -- cpse forks, to the next word or past it; the others go on
 abbrev pub binary_route : ℕ → BinaryOp → Route
-binary_route at binary.Cpc = To (at + 1)
-binary_route at binary.Sbc = To (at + 1)
-binary_route at binary.Add = To (at + 1)
 binary_route at binary.Cpse = Fork (at + 1) (at + 2)
-binary_route at binary.Cp = To (at + 1)
-binary_route at binary.Sub = To (at + 1)
-binary_route at binary.Adc = To (at + 1)
-binary_route at binary.And = To (at + 1)
-binary_route at binary.Eor = To (at + 1)
-binary_route at binary.Or = To (at + 1)
-binary_route at binary.Mov = To (at + 1)
-binary_route at binary.Mul = To (at + 1)
+binary_route at _ = To (at + 1)
 
 -- where an instruction at an address leads
 abbrev pub route_of : ℕ → Instruction → Route
 route_of at (Binary op d r) = binary_route at op
-route_of at (Immediate op d k) = To (at + 1)
-route_of at (Wide op d k) = To (at + 1)
-route_of at (Movw d r) = To (at + 1)
-route_of at (Unary op d) = To (at + 1)
-route_of at (Load m d) = To (at + 1)
-route_of at (Store m r) = To (at + 1)
-route_of at (LoadDisplaced b q d) = To (at + 1)
-route_of at (StoreDisplaced b q r) = To (at + 1)
 route_of at (Rjmp k) = Jump (target at k)
 route_of at (Rcall k) = Call (target at k)
 route_of at (Branch f set k) = Fork (at + 1) (target at k)
 route_of at Ret = Return
-route_of at Clc = To (at + 1)
-route_of at Nop = To (at + 1)
+route_of at _ = To (at + 1)
