@@ -38,7 +38,6 @@ fn output<V: Copy + Into<u32>>(value: V, carry: bool) -> Output<V>
 }
 
 /// The operation on two registers that does what this one does on a register and a constant.
-// Kept a function and no From: it converts nothing, and an impl would have to stand in words, which knows no arithmetic.
 pub fn counterpart(op: ImmediateOp) -> BinaryOp
     ensures { result ≡ counterpart_of op }
 {

@@ -1,7 +1,6 @@
 //! What the arithmetic gives: a value and the flags.
 
 /// A value and the flags.
-// The flags are two fields and no struct of their own: the calls of this crate take and give them apart.
 #[derive(Clone, Copy)]
 pub struct Output<V> {
     pub value: V,

@@ -39,9 +39,13 @@ register_count = 32
 abbrev pub memory_size : ℕ
 memory_size = 65536
 
+-- a memory of zeros
+abbrev pub blank_memory : List ℕ
+blank_memory = replicate memory_size 0
+
 -- everything 0
 abbrev pub blank_core : Core
-blank_core = core (replicate register_count 0) false false (replicate memory_size 0)
+blank_core = core (replicate register_count 0) false false blank_memory
 
 -- there are as many registers and bytes as there should be
 abbrev pub well_formed_core : Core → Bool

@@ -17,7 +17,7 @@ core rs c z bytes = record { registers = rs; carry = c; zero = z; memory = bytes
 abbrev pub reg : List ℕ → ℕ → ℕ
 reg rs d = slice_index rs d
 
--- a pair is a register, its low byte, and the next one
+-- what a pair of registers holds as one number: the lower register is its low byte
 abbrev pub pair_of : List ℕ → ℕ → ℕ
 pair_of rs d = reg rs d + 256 * reg rs (d + 1)
 

@@ -83,7 +83,7 @@ unary_rows unary.Dec d = with_zero d (d ∷ [])
 abbrev pub pair_rows : ℕ → List Row
 pair_rows d = row d (d ∷ ((d + 1) ∷ [])) ∷ (row (d + 1) (d ∷ ((d + 1) ∷ [])) ∷ [])
 
--- a pointer that is written back comes from its own two bytes
+-- a stepped pointer is made from the two bytes of its pair
 abbrev pub back_rows : Mode → List Row
 back_rows mode.X = []
 back_rows mode.XInc = pair_rows 26

@@ -2,7 +2,6 @@
 ghost use Rattle.std.specs.Prelude.{◌≤◌};
 
 /// The places that something comes from, in order: at most four.
-// A list of its own and no `ArrayVec`, which is not copied.
 #[derive(Clone, Copy)]
 pub struct Sources {
     places: [u16; 4],

@@ -1,4 +1,4 @@
-//! The table of what each written place comes from.
+//! The table of sources: the places that an instruction writes, and the places that each new value is made from.
 ghost use Rattle.std.specs.Prelude.{◌≡◌, ◌+◌, [], ◌∷◌};
 ghost use Rattle.std.specs.Option.{option_map, option_to_list};
 ghost use Rattle.avr.specs.Table.{row, lookup, flags_only, binary_rows, unary_rows, pair_rows, back_rows, load_row, store_row, origins_of, deciders_of};
@@ -11,7 +11,7 @@ use crate::sources::listing::listed;
 use alu::arithmetic::counterpart;
 use words::instruction::{BinaryOp, Flag, Instruction, Mode, UnaryOp};
 
-// Places are numbers, since each is the number of its column in a row, and any number may be asked for.
+// A place has the number of its column in a row.
 /// The place of the carry flag; the registers are the places below 32.
 pub const CARRY: u16 = 32;
 /// The place of the zero flag.

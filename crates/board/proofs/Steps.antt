@@ -4,8 +4,9 @@ use Rattle.machine.specs.declared.phase.Phase.{Phase}
 use Rattle.machine.specs.declared.phase.Phase.TheVariants as phase
 use Rattle.machine.specs.declared.phase.Ending.{Ending}
 use Rattle.machine.specs.Run.{State, moves, stops, step, Runs, last, more}
-use Rattle.machine.specs.Calls.{did, ends, does_at, run, phase_of}
-use Rattle.machine.proofs.Runs.{Grows, grows, finish}
+use Rattle.machine.specs.Calls.{Board, board, did, ends, does, does_at, run, phase_of}
+use Rattle.machine.specs.Laws.{CountsIn, RunCounts}
+use Rattle.machine.proofs.Runs.{Grows, grows, finish, counts, chain}
 use Rattle.avr.specs.Core.{Core}
 use Rattle.avr.specs.Chip.{instruction_of, avr}
 use Rattle.avr.proofs.Sounds.{positive}
@@ -24,3 +25,11 @@ run_more ws vs limit s u t e p q r = more s u t e (rw p at (sym q)) r
 pub ran : (ws : List ℕ) (limit : ℕ) (p q : Phase) (s t : State Core) (e : Ending) → (p ≡ phase.Loading) ⊎ (p ≡ phase.Running) → q ≡ phase_of e → Runs (avr ws) limit s t e →
     did t q (ends e) ≡ does_at (avr ws) (run limit) p s
 ran ws limit p q s t e h k r = grind (arith, finish (avr ws) (λ a. positive a (instruction_of ws a)) limit s t e r)
+
+-- what a call to run does is a run that counts, or nothing
+counted : (ws : List ℕ) (limit : ℕ) (p : Phase) (s : State Core) (c : Board Core) (e : Ending) → record { board = c; answer = ends e } ≡ does_at (avr ws) (run limit) p s →
+    CountsIn (avr ws) p limit (board s p) c e
+counted ws limit p s c e h = let pos = λ (a : ℕ). positive a (instruction_of ws a) in grind (arith, counts (avr ws) pos limit s, chain (avr ws) pos limit s)
+
+pub run_counts : (ws : List ℕ) (limit : ℕ) (b c : Board Core) (e : Ending) → record { board = c; answer = ends e } ≡ does (avr ws) (run limit) b → RunCounts (avr ws) limit b c e
+run_counts ws limit b c e h = counted ws limit b.phase b.state c e h

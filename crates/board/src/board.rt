@@ -13,8 +13,7 @@ pub mod running;
 
 /// A simulated board: the chip on 65,536 lent bytes, the address of the next word, the returns that are held apart from
 /// memory, the cycle count and the phase. It always stands at an address of its listing.
-// A board has no heap, so it has room for the cells of the longest listing; how many count is the listing's length. An `ArrayVec`
-// would hold a length of its own, which the listing says already.
+// A board has no heap, so it has room for the cells of the longest listing; the listing's length says how many count.
 #[derive(Drop)]
 pub struct Board<'w, 'm> {
     listing: Listing<'w>,

@@ -15,6 +15,13 @@ pub enum MakingFault {
     Memory,
 }
 
+/// Why a board cannot be made, with the bytes that it was to have, handed back.
+#[derive(Drop)]
+pub struct Unmade<'m> {
+    pub fault: MakingFault,
+    pub bytes: &'m mut [u8],
+}
+
 /// Why a call on a board is refused; each fault is its number in the table of refusals.
 #[derive(Clone, Copy, PartialEq, Eq)]
 pub enum CallFault {
@@ -24,7 +31,7 @@ pub enum CallFault {
     Register = 13,
 }
 
-// By hand, since clauses speak of what `?` makes, and a derived `From` says nothing of it.
+// Written by hand for its `from_gives`: clauses name what `?` makes, and a derived `From` says nothing of it.
 impl From<WordFault> for MakingFault {
     ghost from_gives = { λ f r. r ≡ Words f };
 
@@ -34,7 +41,6 @@ impl From<WordFault> for MakingFault {
 }
 
 impl MakingFault {
-    // An enum whose variants hold fields has no number of its own, so a match gives the one of the table of refusals.
     /// Its number in the table of refusals.
     pub fn number(self) -> u8
         ensures { result ≡ number_of (making_refusal self) }

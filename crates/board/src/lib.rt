@@ -8,3 +8,4 @@
 pub mod board;
 mod chip;
 pub mod fault;
+pub mod memory;

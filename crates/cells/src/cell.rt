@@ -13,7 +13,7 @@ pub enum Test {
 }
 
 /// How a word leaves for another address, and does nothing else.
-// Kept beside words' Route, and no part of it: a choice among ways has at most three, which the board's speed stands on.
+// At most three variants: the board is slower with a choice among more (docs/SPEED.md).
 #[derive(Clone, Copy)]
 pub enum Leave {
     /// Always to this address.

@@ -1,7 +1,7 @@
 //! Works: what the words that go on to the next address do, sorted by how it is done.
 //!
-//! Whoever carries words out meets a work at each. So no choice among works has more than three ways: a processor foresees a
-//! few short choices far better than one jump to any of forty places.
+//! A board chooses by the work at each step. So no choice among works has more than three ways: a processor foresees a few short
+//! choices far better than one jump to any of forty places.
 
 use words::instruction::WideOp;
 
@@ -64,7 +64,6 @@ pub enum Reach {
 }
 
 /// A load of a register, or a store of it, by the pointer whose low byte is in the register `pointer`.
-// `store` is kept a bool: an enum of Load and Store would say no more, and a place that asks has the same two ways.
 #[derive(Clone, Copy)]
 pub struct Access {
     pub store: bool,

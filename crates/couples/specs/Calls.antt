@@ -3,11 +3,14 @@ use Rattle.machine.specs.Calls as calls
 use Rattle.avr.specs.declared.location.Location.{Location}
 use Rattle.avr.specs.Core.{Core}
 use Rattle.secrecy.specs.Couples.{Both, clears, runs, reads, puts, left, right}
+use Rattle.verdicts.specs.Verdict.{Refusal}
 use Rattle.board.specs.declared.board.Board.{Board}
+use Rattle.board.specs.Faults.{making_refusal}
 use Rattle.board.specs.States.{board_of, Works}
 use Rattle.couples.specs.declared.answers.Answers.{Answers}
 use Rattle.machine.specs.declared.call.Call.{Call}
 use Rattle.machine.specs.declared.call.Call.TheVariants.{Clear, Put, Run, Read}
+use Rattle.couples.specs.declared.fault.Unmade.{Unmade}
 use Rattle.couples.specs.declared.working.Couple.{Couple}
 use Rattle.couples.specs.Answers.{answer_of}
 
@@ -26,3 +29,7 @@ pub record Answered (call : Call Location) (b c b' c' : Board) (answers : Answer
 -- what the two boards of a couple stand for, the left one first
 abbrev pub sides : Couple → calls.Board Core × calls.Board Core
 sides c = (board_of c.left, board_of c.right)
+
+-- the refusal that a making that hands its bytes back stands for
+abbrev pub unmade_refusal : Unmade → Refusal
+unmade_refusal u = making_refusal u.fault

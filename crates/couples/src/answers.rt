@@ -8,7 +8,6 @@ use machine::phase::{Ending, Stop};
 use std::fmt;
 
 /// What a board answers to a call.
-// No Result, since a refusal is an answer like the others: two boards are compared by it, and it is printed as it stands.
 #[derive(Clone, Copy, PartialEq, Eq)]
 pub enum Answer {
     /// The call was done.
@@ -22,7 +21,6 @@ pub enum Answer {
 }
 
 /// What a put answers.
-// One conversion for both would need a bound by which `()` and a byte become answers.
 impl From<Result<(), CallFault>> for Answer {
     ghost from_gives = { λ res answer. answer_of answer ≡ put_answer res };
 

@@ -6,4 +6,6 @@
 #![tactic(auto)]
 
 pub mod answers;
+pub mod fault;
+pub mod living;
 pub mod working;

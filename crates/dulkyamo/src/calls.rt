@@ -2,7 +2,7 @@
 use avr::location::Location;
 use board::fault::CallFault;
 use couples::answers::{Answer, Answers};
-use couples::working::{Call, Couple};
+use couples::working::Call;
 use std::{fmt, io};
 
 /// A place as routine files write it.
@@ -19,7 +19,6 @@ impl fmt::Display for Place {
 }
 
 /// A call as routine files write it: one byte where a put gives both boards the same.
-// An order has a wrapper of this name too, in `naming`: each is one text of another type.
 #[derive(Clone, Copy)]
 pub struct Written(pub Call<Location>);
 
@@ -98,13 +97,12 @@ impl fmt::Display for Outcome {
     }
 }
 
-/// Works a call on both boards, and prints what it came to.
-pub(crate) fn work_call(
+/// Prints a call and what both boards answered to it.
+pub(crate) fn print_outcome(
     rt: &HostRuntime,
     call: Call<Location>,
-    couple: &mut Couple<'_, '_, '_>,
+    answers: Answers,
 ) -> io::Result<()> {
-    let answers = couple.work(call);
     let written = Written(call);
     let outcome = Outcome { call, answers };
     println!(rt; "{written}: {outcome}")

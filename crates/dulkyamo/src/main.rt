@@ -1,8 +1,8 @@
 //! Carries out routine files and prints what it carried out, an answer a line.
 //!
 //! It stands on the libraries for everything that decides: `routine` reads, `judge` judges, `couples` works the boards, `explanations`
-//! explains. What is printed is tested by the run in the gate, and not proved: each function is proved to be safe and to end, and the
-//! exit status to be that of what was carried out.
+//! explains. Each function is proved to be safe and to end; `judge_by`, `carry_out` and `status` say more in their contracts. What is
+//! printed is tested by the run in the gate, and not proved.
 #![tactic(auto)]
 
 mod calls;
@@ -53,7 +53,7 @@ fn main(rt: HostRuntime) -> ExitCode {
     status(&done)
 }
 
-/// The exit status of what was done.
+/// The exit status of what was done: 0 for a yes, and 1 for a no or an error.
 fn status(done: &io::Result<bool>) -> ExitCode
     ensures { exit_status result ≡ status_of done.now }
 {
@@ -65,7 +65,7 @@ fn status(done: &io::Result<bool>) -> ExitCode
 }
 
 /// Carries out what the arguments name, and answers whether all of it could be.
-// A bool and no error: a file that cannot be read is no reason to leave the others, and the status is one of two.
+// A file that cannot be read does not keep the others from being carried out.
 fn run(rt: &HostRuntime) -> io::Result<bool> {
     let mut names = env::args(rt)?.skip(1).peekable();
     if names.peek().is_none() {
@@ -125,7 +125,6 @@ fn carry_out(rt: &HostRuntime, name: &str, file: &[u8]) -> io::Result<bool>
 fn print_routine(rt: &HostRuntime, name: &str, routine: &Routine) -> io::Result<()> {
     println!(rt; "routine {name}")?;
     print_words(rt, routine.words.as_slice())?;
-    // A match, since `map`, `transpose` and `flatten` say the same in three words that a reader has to unfold.
     let order = match &routine.order {
         Some(text) => naming::print_order(rt, text)?,
         None => None,
@@ -144,7 +143,7 @@ fn print_words(rt: &HostRuntime, words: &[u16]) -> io::Result<()> {
 }
 
 /// Prints why words are no listing, with the number of the refusal.
-// Explanations of a judgement say the same of the length, and of a word that does not decode not which it is.
+// Keep the text on the length equal to that of `explanations`; of the other refusal each says a different thing.
 fn print_refusal(rt: &HostRuntime, fault: WordFault, words: &[u16]) -> io::Result<()>
     requires { legal_of words.now ≡ refused (word_refusal fault) }
 {
@@ -167,7 +166,6 @@ fn print_refusal(rt: &HostRuntime, fault: WordFault, words: &[u16]) -> io::Resul
 fn print_listing(rt: &HostRuntime, listing: Listing<'_>) -> io::Result<()> {
     let len = listing.len();
     println!(rt; "listing {len} words")?;
-    // Over addresses: the listing answers an Option for each, so there is nothing to iterate.
     for at in 0..len {
         print_word(rt, listing, at)?;
     }

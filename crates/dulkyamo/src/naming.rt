@@ -5,7 +5,6 @@ use orders::written::{OrderText, SimpleText};
 use std::{fmt, io};
 
 /// An order as it is written, in short.
-// A call has a wrapper of this name too, in its own module: each is one text of another type.
 #[derive(Clone, Copy)]
 struct Written<'a>(&'a SimpleText);
 
@@ -65,7 +64,7 @@ pub(crate) fn print_order(rt: &HostRuntime, text: &OrderText) -> io::Result<Opti
             print_held(rt, &made)?;
             Ok(Some(made))
         }
-        // Not met, since no part is refused; but that is no fact of this function.
+        // Not reached, since a refused part was printed above; but no clause of this function says so.
         Err(fault) => {
             let number = fault.number();
             println!(rt; "refused {number}")?;

@@ -9,7 +9,6 @@ use words::route::Route;
 
 impl Refusal<'_> {
     /// The join address of a row.
-    // Under the name that routine files and explanations have for it.
     pub(crate) fn join(&self, row: u32) -> u16
         ensures { result ≡ (seen self.now.routine).join_address row }
     {

@@ -30,7 +30,6 @@ struct RowLabel {
     len: usize,
 }
 
-// By hand, since the text depends on how many words there are.
 impl fmt::Display for RowLabel {
     fn fmt<W: fmt::Write>(&self, f: &mut fmt::Formatter<W>) -> fmt::Result {
         let row = self.row;
@@ -66,7 +65,7 @@ impl Refusal<'_> {
     }
 
     /// What is wrong with the words.
-    // The program says the same of the length where it lists a routine, and of a word that does not decode which it is.
+    // Keep the text on the length equal to that of the program, where it lists a routine.
     fn explain_words<W: fmt::Write>(
         &self,
         f: &mut fmt::Formatter<W>,

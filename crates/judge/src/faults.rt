@@ -12,13 +12,12 @@ pub enum RowFault {
     /// There are not as many numbers as the rows of all words and the finish row take.
     Count,
     /// No level has the code in this column of this row.
-    // A number, as the refusal carries it; who explains the refusal finds the name.
+    // The column's number, as the refusal carries it.
     NotHeld { row: u16, column: u16 },
     /// The row has not the shape of one: its region, its function, or where it begins or ends.
     Shape { row: u16 },
 }
 
-// An enum whose variants hold fields has no number of its own, so a method gives the one of the table of refusals.
 impl RowFault {
     /// Its number in the table of refusals.
     pub fn number(self) -> u8
@@ -45,11 +44,9 @@ pub enum FlowFault {
     /// The edge from inside a region neither ends the region in time nor stays in it.
     Time { at: u16, next: u32 },
     /// The level of a place after the word does not flow to its level in the next row; `REGION` stands for the region level.
-    // A number, as the refusal carries it.
     Level { at: u16, next: u32, place: u16 },
 }
 
-// As at `RowFault`: variants with fields have no number of their own.
 impl FlowFault {
     /// Its number in the table of refusals.
     pub fn number(self) -> u8
@@ -76,7 +73,6 @@ pub enum JudgeFault {
     Flow(FlowFault),
 }
 
-// As at `RowFault`: the number is that of the fault inside.
 impl JudgeFault {
     /// Its number in the table of refusals.
     pub fn number(self) -> u8
@@ -90,7 +86,7 @@ impl JudgeFault {
     }
 }
 
-// By hand, since the clauses of the judge speak of what `?` makes, and a derived `From` says nothing of it.
+// Written by hand for its `from_gives`: clauses name what `?` makes, and a derived `From` says nothing of it.
 impl From<WordFault> for JudgeFault {
     ghost from_gives = { λ f r. r ≡ Words f };
 

@@ -10,12 +10,11 @@ const CAPACITY: usize = 1024;
 
 /// A routine of at most 1,024 words and of as many numbers as their rows and the finish row take, the order that its levels are of, and
 /// the function that each word calls, worked out once.
-// Clauses name the meaning of the order, the chip and the rows apart, as the rules of docs/RULES.md take them.
 #[derive(Drop)]
 pub struct Judgement<'j, O> {
     routine: RoutineView<'j>,
     order: &'j O,
-    // Fixed memory, since the judge has no heap: nobody is called past the last word.
+    // Room for the longest listing, since the judge has no heap; past the last word nobody is called.
     callees: [Option<u32>; CAPACITY],
     ghost few: { length routine.words.now ≤ 1024 },
     ghost whole: { length routine.rows.now ≡ (length routine.words.now + 1) * columns },

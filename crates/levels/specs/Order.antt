@@ -8,8 +8,9 @@ pub record Meaning : Type 0 where
   pub flows : ℕ → ℕ → Bool
   pub join : ℕ → ℕ → ℕ
 
--- What an order owes. The four laws speak of held codes; where one of them leaves out that a code is held, a flow that it
--- supposes says so already (`flows_from_held`, `flows_to_held`).
+-- What an order owes: its held codes are a bounded join-semilattice, in which bytes join to bytes. The four laws speak of held
+-- codes; where one of them leaves out that a code is held, a flow that it supposes says so already (`flows_from_held`,
+-- `flows_to_held`).
 pub record Laws (m : Meaning) : Type 0 where
   -- the first law: 0 is held, and it may flow to all
   pub zero_held : m.held 0 ≡ true

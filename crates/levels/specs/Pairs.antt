@@ -6,8 +6,8 @@ use Rattle.levels.specs.Order.{Meaning}
 abbrev pub both_held : Meaning → Meaning → ℕ → Bool
 both_held p q a = nat_lt a 65536 && (p.held (a / 256) && q.held (a % 256))
 
--- The pair of two orders: 256 * a + b stands for level a of the first with level b of the second. Both have to be held, and
--- flow and join go part by part.
+-- The pair of two orders: 256 * a + b stands for level a of the first with level b of the second. Both have to be held; flow
+-- and join are those of the parts.
 abbrev pub pair : Meaning → Meaning → Meaning
 pair p q = record {
   held = both_held p q;

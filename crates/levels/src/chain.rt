@@ -17,7 +17,6 @@ pub struct Chain {
 
 impl Chain {
     /// The chain of 1 to 256 levels.
-    // `Compartments::new` differs in the size's type and in what is made of it; a common maker would be longer than the two.
     pub fn new(levels: u16) -> Result<Chain, OrderFault>
         ensures { outcome (λ o. o.levels) refusal_of result ≡ making (sized 256 levels) levels }
     {

@@ -17,7 +17,6 @@ pub struct Compartments {
 
 impl Compartments {
     /// The order of 1 to 16 compartments.
-    // Made as a chain is, of another type: a common maker would be longer than the two.
     pub fn new(bits: u32) -> Result<Compartments, OrderFault>
         ensures { outcome (λ o. o.bits) refusal_of result ≡ making (sized 16 bits) bits }
     {

@@ -5,8 +5,8 @@ ghost use Rattle.levels.specs.Order.{Meaning, Laws};
 /// An order of secrecy levels, each named by a 16-bit code.
 ///
 /// Its meaning is one value: which codes are held, which code may flow to which, and the join of each two. The three answers
-/// are those of the meaning, and so depend on nothing but the order's contents and the codes. Each implementation shows that
-/// its meaning keeps the laws, and code that is generic over an order may use them.
+/// are those of the meaning, so nothing else of an order shows in them. Each implementation shows that its meaning keeps the
+/// laws, and code that is generic over an order may use them.
 pub trait Order {
     /// What the order means.
     ghost meaning: { Self → Meaning };
@@ -20,8 +20,6 @@ pub trait Order {
         ensures { result ≡ (meaning self.now).flows a b };
 
     /// The least level that both may flow to: 0, where one of the two is not held.
-    // Each implementation asks whether both are held. A `final` method could ask for all, but each join would be the same choice by
-    // its answer.
     fn join(&self, a: u16, b: u16) -> u16
         ensures { result ≡ (meaning self.now).join a b };
 

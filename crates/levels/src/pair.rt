@@ -22,7 +22,6 @@ impl<A: Order, B: Order> Pair<A, B> {
     }
 }
 
-// The parts of a code are numbers of its meaning; as bytes of an array they would be named first and widened again.
 impl<A: Order, B: Order> Order for Pair<A, B> {
     ghost meaning = { λ o. pair (A.Order.meaning o.first) (B.Order.meaning o.second) };
 

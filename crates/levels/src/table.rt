@@ -14,7 +14,7 @@ use crate::table::square::Square;
 mod square;
 
 /// Levels 0 to `levels` - 1, with the join of each two among `joins`, row by row.
-// A table has no heap, so it has room for the joins of 16 levels; an `ArrayVec` would hold a length that `levels` says already.
+// A table has no heap, so it has room for the joins of 16 levels.
 #[derive(Drop)]
 pub struct Table {
     levels: u8,
@@ -35,7 +35,7 @@ fn padded(bytes: &[u8]) -> [u8; 256]
 
 impl Table {
     /// The table of one level, the place that `fill` fills.
-    // The project asks for such a place, which a refused `fill` leaves as it is.
+    // `fill` writes into a table that is there already, so that a refusal can leave the one before.
     pub fn trivial() -> Table
         ensures levels { result.levels ≡ 1 }
         ensures meaning { table result.levels result.joins ≡ table 1 (0 ∷ []) }

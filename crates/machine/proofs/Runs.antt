@@ -1,9 +1,11 @@
 -- The run as a function and the run as a chain of steps are one.
-use Rattle.std.proofs.Common.{◌≡◌, ℕ, zero, suc, ◌+◌, ◌-◌, ◌<◌, ◌≤◌, arith}
+use Rattle.std.proofs.Common.{◌≡◌, ℕ, zero, suc, ◌+◌, ◌-◌, ◌<◌, ◌≤◌, List, [], ◌∷◌, refl, arith}
+use Rattle.machine.specs.declared.phase.Phase.{Phase}
 use Rattle.machine.specs.declared.phase.Ending.{Ending}
 use Rattle.machine.specs.Machine.{Machine, Positive}
 use Rattle.machine.specs.Run.{State, Step, moves, stops, step, Runs, last, more, run_for, run_of}
-use Rattle.machine.specs.Laws.{total, Carries, cost_at, last_costs, costs, CountsFor}
+use Rattle.machine.specs.Calls.{Board, board, Call, does, does_at, fresh, board_after}
+use Rattle.machine.specs.Laws.{total, Carries, cost_at, last_costs, costs, costs_for, costs_of, Counts, since_clear, since_last_clear, CountsLives, CountsFor}
 
 -- a step that goes on takes cycles, within the limit
 abbrev pub Grows : {B : Type 0} → ℕ → ℕ → Step B → Type 0
@@ -46,6 +48,41 @@ module _ {B V W : Type 0} (M : Machine B V W) where
   carries s t e (last _ _ _ p) = (adds _ s (stops t e) p).1
   carries s t e (more _ u _ _ p r) = carries u t e r
 
-pub counts : {B V W : Type 0} → CountsFor B V W
-counts M positive limit s =
-    let r = ran M positive (suc limit) limit s (omega arith) in record { chain = r; sum = sums M s _ _ r; carries = carries M s _ _ r }
+  -- the cycles along a chain are those of the function
+  costs_by : ((a : ℕ) → Positive (M.kind a)) → (n limit : ℕ) (s t : State B) (e : Ending) (r : Runs M limit s t e) → limit - s.count < n → costs M r ≡ costs_for M n limit s
+  unfolding costs_for
+  costs_by pos zero limit s t e r h = absurd (omega arith)
+  costs_by pos (suc n) limit s t e (last _ _ _ p) h = grind arith
+  costs_by pos (suc n) limit s t e (more _ u _ _ p r) h = grind (arith, grows pos limit s, costs_by pos n limit u t e r)
+
+  pub counts : ((a : ℕ) → Positive (M.kind a)) → (limit : ℕ) (s t : State B) (e : Ending) → Runs M limit s t e → Counts M limit s t e
+  counts pos limit s t e r = record { chain = r; sum = sums s t e r; carries = carries s t e r }
+
+  module _ (pos : (a : ℕ) → Positive (M.kind a)) where
+    pub chain : (limit : ℕ) (s : State B) → Runs M limit s (run_of M limit s).state (run_of M limit s).ending
+    chain limit s = ran pos (suc limit) limit s (omega arith)
+
+    pub costs_are : (limit : ℕ) (s t : State B) (e : Ending) (r : Runs M limit s t e) → costs M r ≡ costs_of M limit s
+    costs_are limit s t e r = costs_by pos (suc limit) limit s t e r (omega arith)
+
+    -- the count after a run, by the cycles of the function
+    count_after : (limit : ℕ) (s : State B) → (run_of M limit s).state.count ≡ s.count + total (costs_of M limit s)
+    count_after limit s = let r = chain limit s in rw (← costs_are limit s _ _ r) (sums s _ _ r)
+
+    one_call : (k : Call W) (p : Phase) (s : State B) (n : ℕ) → s.count ≡ n → (does_at M k p s).board.state.count ≡ since_clear M k (board s p) n
+    one_call k p s n e = grind (arith, count_after)
+
+    all_calls : (ks : List (Call W)) (b : Board B) (n : ℕ) → b.state.count ≡ n → (board_after M ks b).state.count ≡ since_last_clear M ks b n
+    all_calls [] b n e = e
+    all_calls (k ∷ ks) b n e = all_calls ks (does M k b).board (since_clear M k b n) (one_call k b.phase b.state n e)
+
+    pub lives : CountsLives M
+    lives ks = all_calls ks (fresh M) 0 refl
+
+-- all of it
+pub counts_for : {B V W : Type 0} → CountsFor B V W
+counts_for = record {
+  runs = λ M pos limit s. counts M pos limit s _ _ (chain M pos limit s);
+  costs_are = λ M pos. costs_are M pos;
+  lives = λ M pos. lives M pos;
+}

@@ -1,5 +1,5 @@
 -- The calls on a board, and what each does in each phase. Assumes nothing.
-use Rattle.std.specs.Prelude.{ℕ, cond, []}
+use Rattle.std.specs.Prelude.{ℕ, cond, List, [], ◌∷◌}
 use Rattle.verdicts.specs.Verdict.{Refusal, refusal}
 use Rattle.machine.specs.declared.phase.Phase.{Phase}
 use Rattle.machine.specs.declared.phase.Phase.TheVariants as phase
@@ -87,3 +87,15 @@ module _ {B V W : Type 0} (M : Machine B V W) where
 
   abbrev pub does : Call W → Board B → Done B
   does c b = does_at c b.phase b.state
+
+-- Calls on a board, one after another.
+module _ {B V W : Type 0} (M : Machine B V W) where
+  -- where they leave it
+  abbrev pub board_after : List (Call W) → Board B → Board B
+  board_after [] b = b
+  board_after (k ∷ ks) b = board_after ks (does M k b).board
+
+  -- what it answers to each of them
+  abbrev pub answers_to : List (Call W) → Board B → List Answer
+  answers_to [] b = []
+  answers_to (k ∷ ks) b = (does M k b).answer ∷ answers_to ks (does M k b).board

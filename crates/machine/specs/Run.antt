@@ -69,7 +69,7 @@ arrived size a (Some b) rs n x = landed size a b rs n x
 arrived size a None rs n x = stops (state a rs n x) (ending.Ended n)
 
 module _ {B V W : Type 0} (M : Machine B V W) where
-  -- one step, in the order of its tests: is it spent, is it deep, and else the word is carried out and the next address looked at
+  -- one step, in the order of its tests: spent, deep, and where it is neither the effect of the word and then the next address
   abbrev pub step_at : ℕ → Kind → Bool → ℕ → List ℕ → ℕ → B → Step B
   step_at limit k aside a rs n x =
       paid limit (cycles_of k aside) a rs n x

@@ -7,7 +7,6 @@ use std::fmt;
 use words::instruction::{Base, BinaryOp, Flag, ImmediateOp, Instruction, Mode, UnaryOp, WideOp};
 
 /// What the notation has a name for: a mnemonic, or a pointer with its step.
-// No Display, which would have to stand in the crate of the types.
 trait Named: Copy {
     fn name(self) -> &'static str;
 }

@@ -24,7 +24,6 @@ pub enum Made {
     Pair(Pair<Simple, Simple>),
 }
 
-// Each answer is the kind's own, as those of `Simple` are.
 impl Order for Made {
     ghost meaning = { made_meaning };
 

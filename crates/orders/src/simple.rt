@@ -69,8 +69,6 @@ impl Simple {
     }
 }
 
-// Each answer is the kind's own. A method that handed the kind out as a `dyn Order` would leave one choice in place of three, and
-// the gate refuses one.
 impl Order for Simple {
     ghost meaning = { meaning_of };
 

@@ -1,7 +1,7 @@
 //! Orders as they are written, before it is known whether they can be made.
 
 /// An order of a simple kind, as it is written.
-// `Simple` has the same kinds, but of orders that keep the laws: here there are sizes and bytes that may be wrong.
+// Unlike those of `Simple`, these sizes and bytes may be wrong.
 #[derive(Drop)]
 pub enum SimpleText {
     /// A chain of so many levels.

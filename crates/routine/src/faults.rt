@@ -69,7 +69,7 @@ pub enum Fault {
     NoMemory,
 }
 
-// By hand, since a derived `From` has no contract, and clauses say what `?` makes of each error.
+// Written by hand for its `from_gives`: clauses name what `?` makes, and a derived `From` says nothing of it.
 impl From<Malformed> for Fault {
     ghost from_gives = { λ m r. r ≡ fault.Malformed m };
 

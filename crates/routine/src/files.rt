@@ -51,7 +51,6 @@ fn read_lines(heap: Global, file: &[u8], routine: &mut Routine) -> Result<(), Fi
 fn read_line(heap: Global, line: Line<'_>, routine: &mut Routine) -> Result<(), Fault>
     ensures { Makes result routine.old routine.new (λ d. after_line d (line_left line.entry)) }
 {
-    // A match: `map_or` would have a closure that writes.
     match read_statement(heap, line)? {
         Some(statement) => routine.accept(statement),
         None => Ok(()),

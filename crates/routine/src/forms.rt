@@ -15,7 +15,6 @@ use text::Line;
 fn read_bytes(heap: Global, line: &mut Line<'_>) -> Result<Vec<u8>, Fault>
     ensures { Reads vec_items result bytes_in line.old line.new }
 {
-    // No `gather` of a `take_while`, which would take the kind that ends the bytes too.
     let mut bytes = Vec::new(heap);
     let mut ahead = *line;
     while let Some(token) = ahead.next()

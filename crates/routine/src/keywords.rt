@@ -1,6 +1,4 @@
 //! Keywords: the first token of a line says what kind of statement the line holds, and the first of an order what kind of order.
-// Two matches, and no function over a table of names that both would search: a match is plainer than its table. And no TryFrom,
-// which would refuse where whoever asks only wants to know.
 ghost use Rattle.std.specs.Prelude.{◌≡◌};
 ghost use Rattle.routine.specs.Keywords.{keyword_of, kind_of, names_pair};
 

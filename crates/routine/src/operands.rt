@@ -35,7 +35,6 @@ pub(crate) fn read_number<N: Number>(line: &mut Line<'_>) -> Result<N, Malformed
 }
 
 /// What each token of a line says, or what the first that is malformed is blamed for.
-// The heap goes with a line only where something is allocated.
 pub(crate) fn gather<T: Drop, F: Fn(&[u8]) -> Result<T, Malformed>>(
     heap: Global,
     line: Line<'_>,
@@ -83,7 +82,7 @@ pub(crate) fn register_digits(token: &[u8]) -> Option<&[u8]>
 fn place_of(token: &[u8]) -> Result<Location, Malformed>
     ensures { result ≡ place_of token.now }
 {
-    // By `number` and casts: with `number_of`, whose faults are named once more on the way, the proof stayed open.
+    // The proof goes through with `number` and a cast, and stays open with `number_of`.
     let place = match register_digits(token) {
         Some(digits) => number(digits, u8::MOST).map(|n| Location::Register(n as u8)),
         None => number(token, u16::MOST).map(|n| Location::Memory(n as u16)),

@@ -82,7 +82,6 @@ impl Routine {
     }
 
     /// Sets the order, which comes before the steps.
-    // Three statements begin with this test and go on with their own: a function for it would have to be asked with `?` all the same.
     fn set_order(&mut self, order: OrderText) -> Result<(), Fault>
         ensures { Makes result self.old self.new (λ d. accepted d (said_order (written_of order))) }
     {

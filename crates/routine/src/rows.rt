@@ -34,7 +34,6 @@ pub enum RowName {
 }
 
 /// The column that has this name of its own, if one has.
-// A match, as those of the keywords: a search of a table would be longer than the table.
 #[tactic(auto, unfolding(crate::specs::Rows::column_by_own_name))]
 fn named_column(name: &[u8]) -> Option<Column>
     ensures { result ≡ column_by_own_name name.now }
@@ -56,7 +55,6 @@ fn named_column(name: &[u8]) -> Option<Column>
 fn column_of(name: &[u8]) -> Result<Column, Malformed>
     ensures { result ≡ column_by_name name.now }
 {
-    // First by a name of its own; `map_or_else` would put what follows into a closure.
     if let Some(column) = named_column(name) {
         return Ok(column);
     }
@@ -114,7 +112,7 @@ pub(crate) fn row_number(words: usize, name: RowName) -> Result<usize, Malformed
 }
 
 /// Writes a value into the row that begins at `start`; past the last row there is none.
-// A `Vec` that does not grow: what `get_mut` lends of a slice left two goals open.
+// A `Vec`, although it does not grow: the proof for a slice stays open at `get_mut`.
 fn write_entry(rows: &mut Vec<u16>, start: usize, entry: Entry)
     ensures { rows.new.items ≡ slice_set rows.old.items (start + index_of entry.column) entry.value }
 {

@@ -2,7 +2,6 @@
 ghost use Rattle.std.specs.Prelude.{◌≡◌, ℕ, ◌≤◌};
 
 /// A number of so many bits.
-// Not TryFrom: as a bound it would not say which numbers come through.
 pub(crate) trait Number: Copy {
     ghost MOST: { ℕ };
 

@@ -34,7 +34,7 @@ pub enum Statement {
 pub fn read_statement(heap: Global, mut line: Line<'_>) -> Result<Option<Statement>, Fault>
     ensures { Answers (options.option_map stated_of) result line_of line.entry }
 {
-    // No `?`: a line without a statement is no refusal.
+    // A line without a statement is no refusal.
     let Some(token) = line.next() else {
         return Ok(None);
     };

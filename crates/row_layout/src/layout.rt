@@ -43,7 +43,6 @@ pub enum Column {
 }
 
 /// Its name.
-// By hand: the kit derives texts for errors only, and a column is none.
 impl fmt::Display for Column {
     fn fmt<W: fmt::Write>(&self, f: &mut fmt::Formatter<W>) -> fmt::Result {
         match self {
@@ -59,7 +58,6 @@ impl fmt::Display for Column {
     }
 }
 
-// Methods and no `From` and `TryFrom`: the number is where a column stands, and `usize::from(column)` would not say so.
 impl Column {
     /// Where it stands in its row.
     pub fn index(self) -> usize

@@ -3,7 +3,7 @@ use Rattle.std.proofs.Common.{◌≡◌, ℕ, zero, suc, ◌-◌, ◌<◌, ◌�
 use Rattle.std.proofs.lemmas.Bool.{cases_Bool}
 use Rattle.machine.specs.Run.{State, step, Runs, last, more, run_of}
 use Rattle.machine.specs.declared.phase.Ending.{Ending}
-use Rattle.machine.proofs.Runs.{counts}
+use Rattle.machine.proofs.Runs.{chain}
 use Rattle.secrecy.specs.Flow.{pc_level}
 use Rattle.secrecy.proofs.Setting.{Setting, High, Good, LowEquivalent, Diverged, Near, Rest}
 use Rattle.secrecy.proofs.Statics.{early, high_inside}
@@ -104,4 +104,4 @@ module _ {B V W : Type 0} (S : Setting B V W) where
   -- runs of boards that are alike, with one limit, end alike
   pub both_run : (limit : ℕ) (u v : State B) → Near S u v → EndAlike (run_of M limit u).state (run_of M limit v).state (run_of M limit u).ending (run_of M limit v).ending
   both_run limit u v near =
-      both (suc limit) limit u v _ _ _ _ (omega arith) near (counts M sound.positive limit u).chain (counts M sound.positive limit v).chain
+      both (suc limit) limit u v _ _ _ _ (omega arith) near (chain M sound.positive limit u) (chain M sound.positive limit v)

@@ -1,8 +1,8 @@
 -- Two boards worked by the same calls, which differ in secrets only. Assumes nothing.
-use Rattle.std.specs.Prelude.{◌≡◌, ℕ, true, false, ◌⊎◌, List, [], ◌∷◌}
+use Rattle.std.specs.Prelude.{◌≡◌, ℕ, true, false, ◌⊎◌, List, [], ◌∷◌, map}
 use Rattle.levels.specs.Order.{Meaning}
 use Rattle.machine.specs.Machine.{Machine}
-use Rattle.machine.specs.Calls.{Board, Call, clear, run, read, put, Answer, done, refused, ends, byte, does}
+use Rattle.machine.specs.Calls.{Board, Call, clear, run, read, put, Answer, done, refused, ends, byte, answers_to}
 use Rattle.secrecy.specs.Rows.{Rows}
 
 -- one call on both boards: a run has one limit and a read one place, and a put has one place and a byte for each board
@@ -34,14 +34,14 @@ blind (ends e) = ends e
 blind (byte n) = byte 0
 
 module _ {B V W : Type 0} (m : Meaning) (observer : ℕ) (M : Machine B V W) (R : Rows) where
-  -- a place is hidden in a row from an observer to whose level its own does not flow, and else visible to him
+  -- a place is hidden in a row from an observer to whose level its own does not flow, and else visible
   abbrev pub Hidden : ℕ → ℕ → Type 0
   Hidden row p = m.flows (R.level row p) observer ≡ false
 
   abbrev pub Visible : ℕ → ℕ → Type 0
   Visible row p = m.flows (R.level row p) observer ≡ true
 
-  -- a put gives both boards one byte, or each its own where the place is hidden in the first row
+  -- a put gives both boards one byte, or each its own, a secret, where row 0 hides the place
   abbrev pub Allowed : Both W → Type 0
   Allowed clears = Unit {0}
   Allowed (runs limit) = Unit {0}
@@ -59,8 +59,12 @@ module _ {B V W : Type 0} (m : Meaning) (observer : ℕ) (M : Machine B V W) (R 
   Same (reads w) a b = (blind a ≡ blind b) × (Visible M.size (M.place w) → a ≡ b)
   Same (puts w x y) a b = a ≡ b
 
-  -- the two boards give the same answers to one call after another
+  -- two lists of answers to some calls are the same, call by call
+  abbrev pub SameEach : List (Both W) → List Answer → List Answer → Type 0
+  SameEach [] [] [] = Unit {0}
+  SameEach (k ∷ ks) (a ∷ xs) (b ∷ ys) = Same k a b × SameEach ks xs ys
+  SameEach ks xs ys = ⊥
+
+  -- two boards give the same answers to one call after another
   abbrev pub SameAnswers : List (Both W) → Board B → Board B → Type 0
-  SameAnswers [] b c = Unit {0}
-  SameAnswers (k ∷ ks) b c =
-      Same k (does M (left k) b).answer (does M (right k) c).answer × SameAnswers ks (does M (left k) b).board (does M (right k) c).board
+  SameAnswers ks b c = SameEach ks (answers_to M (map left ks) b) (answers_to M (map right ks) c)

@@ -28,7 +28,7 @@ module _ {B V W : Type 0} (m : Meaning) (M : Machine B V W) (R : Rows) where
   abbrev pub deciding : ℕ → ℕ
   deciding a = deciding_of m (R.level a) (M.kind a)
 
-  -- the region level joined with the deciding level: the level of knowing which way is taken from here
+  -- the program-counter level, the join of region level and deciding level: how secret it is which way is taken from here
   abbrev pub pc_level : ℕ → ℕ
   pc_level a = m.join (R.region a) (deciding a)
 

@@ -1,4 +1,4 @@
--- What acceptance promises, whole. Assumes nothing.
+-- What acceptance promises, whole: noninterference, in which cycle counts are observed too. Assumes nothing.
 use Rattle.std.specs.Prelude.{◌≡◌, ℕ, ◌<◌, ◌≤◌, true, false, List}
 use Rattle.verdicts.specs.Verdict.{fine}
 use Rattle.levels.specs.Order.{Meaning, Laws}

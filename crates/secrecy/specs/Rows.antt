@@ -8,7 +8,7 @@ abbrev pub places : ℕ
 places = 35
 
 -- the columns after those: the region level, the address at which the ways of the region come together, the cycles that
--- remain until then, and the function, which goes by the address of its first word
+-- remain until then, and the function, named by where it begins
 abbrev pub region_column : ℕ
 region_column = 35
 
@@ -40,11 +40,11 @@ cell n rows row column = cond (nat_lt n row) 0 (slice_index rows (row * columns 
 pub record Rows : Type 0 where
   -- the level of a place before the word is carried out
   pub level : ℕ → ℕ → ℕ
-  -- the level of whatever decided that this word is carried out
+  -- the program-counter label: the level of whatever decided that this word is carried out
   pub region : ℕ → ℕ
-  -- the join address of the region
+  -- the join address of the region: a post-dominator of its words
   pub join_address : ℕ → ℕ
-  -- the cycles from here to the join address; an address is inside a region if they are above 0
+  -- the cycles from here to the join address; outside every region they are 0
   pub remaining : ℕ → ℕ
   -- the function that the word belongs to
   pub function : ℕ → ℕ

@@ -85,11 +85,11 @@ module _ (n : ℕ) (R : Rows) where
   bounded a (calls t c) = (nat_lt t n && R.function t == t) && keeps_function a (a + 1)
   bounded a (rets c) = true
 
--- an edge of c cycles from inside that ends the region: it reaches the join address, which is outside, just in time
+-- an edge of c cycles that ends the region of its word: it reaches the join address, which is outside, just in time
 abbrev pub leaves : Rows → ℕ → ℕ → ℕ → Bool
 leaves R a b c = b == R.join_address a && (outside R b && R.remaining a == c)
 
--- an edge of c cycles from inside that stays in the region: to a row with the same join address, with so much less remaining
+-- an edge of c cycles that stays in the region of its word: to a row with the same join address, with so much less remaining
 abbrev pub stays : Rows → ℕ → ℕ → ℕ → Bool
 stays R a b c = R.join_address b == R.join_address a && (inside R b && R.remaining a == c + R.remaining b)
 

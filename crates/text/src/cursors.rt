@@ -15,8 +15,6 @@ pub struct Lines<'a> {
 }
 
 /// The tokens of a line that are still to come.
-// No model takes `line_left` out of the clauses: the check refuses one ("`Copy` is not supported yet") where a type that is copied to
-// look ahead has a lifetime.
 #[derive(Clone, Copy)]
 pub struct Line<'a> {
     rest: &'a [u8],
@@ -61,7 +59,6 @@ impl<'a> Iterator for Line<'a> {
         let (_, bytes) = cut(self.rest, is_blank);
         let (token, rest) = cut(bytes, is_solid);
         self.rest = rest;
-        // Two ways, of which each is shown by itself: of a `then_some` they would be one goal that has to be split again.
         if token.is_empty() { None } else { Some(token) }
     }
 }

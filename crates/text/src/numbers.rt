@@ -75,7 +75,6 @@ fn read(digits: &[u8], base: Base, most: u32) -> Result<u32, NumberFault>
 fn weigh(digits: &[u8], base: Base, most: u32) -> Result<u32, NumberFault>
     ensures { result ≡ limited most (Some (digits_value (radix base) digits.now)) }
 {
-    // No `try_fold`: its closure would have to pass the same test and the same error on.
     let mut sum = 0u32;
     for digit in digits {
         let more = appended(sum, base, *digit);

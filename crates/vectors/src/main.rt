@@ -21,7 +21,6 @@ fn main(rt: HostRuntime) -> anyhow::Result<()> {
 fn run(rt: &HostRuntime) -> anyhow::Result<()> {
     let table = io::read_to_string(rt.alloc(), rt.stdin())?;
     let read = table.as_str().lines().count();
-    // Two counts of what is found on the way, where each line is printed too.
     let mut differing = 0u64;
     let mut again = 0u64;
     for line in table.as_str().lines() {

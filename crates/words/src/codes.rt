@@ -6,7 +6,6 @@ ghost use Rattle.words.specs.Codes.{binary_code, binary_named, immediate_code, i
 use crate::instruction::{Base, BinaryOp, Flag, ImmediateOp, Mode, UnaryOp, WideOp};
 
 /// What a field of a word names by its number: each thing has a number of its own, which the field has room for.
-// Kept apart from From and TryFrom: no law of theirs ties the two ways together.
 pub trait Coded: Copy {
     ghost size: { ℕ };
 
@@ -15,7 +14,6 @@ pub trait Coded: Copy {
     ghost named_by: { ℕ → Option Self };
 
     /// Its number in a word.
-    // No default: `self as u16` needs to know which enum it casts.
     fn code(self) -> u16
         ensures value { result ≡ code_of self }
         ensures small { result < size };

@@ -53,7 +53,7 @@ impl Instruction {
                 && !mode.writes_back(r),
             Instruction::LoadDisplaced { q, d: r, .. } | Instruction::StoreDisplaced { q, r, .. } =>
                 q < 64 && r < 32,
-            // Two arms: an or-pattern that binds an `i16` gets no proof.
+            // Two arms, since an or-pattern that binds an `i16` is not proved.
             Instruction::Rjmp { k } => fits_in(2048, k),
             Instruction::Rcall { k } => fits_in(2048, k),
             Instruction::Branch { k, .. } => fits_in(64, k),

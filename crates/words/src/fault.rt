@@ -14,7 +14,6 @@ pub enum WordFault {
 
 impl WordFault {
     /// Its number in the table of refusals.
-    // Kept a method and no From: `u8::from(fault)` would not say that the number is one of that table.
     pub fn number(self) -> u8
         ensures { result ≡ number_of (word_refusal self) }
     {

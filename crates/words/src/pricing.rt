@@ -6,7 +6,7 @@ use crate::codes::Coded;
 use crate::instruction::{BinaryOp, Instruction};
 
 /// The cycles of a load by a pointer, by the number of its mode; 0 where no mode has the number.
-// A table by number, with a 0 where there is none, as the project asks; a match on modes would have the same three numbers in its arms.
+// Indexed by the four bits m of the word, so that it can be held against the table in docs/WORDS.md.
 const LOAD_CYCLES: [u8; 16] = [0, 2, 3, 0, 0, 0, 0, 0, 0, 2, 3, 0, 1, 2, 3, 0];
 
 impl Instruction {

@@ -6,7 +6,7 @@ use crate::instruction::{BinaryOp, Instruction};
 use crate::route::Route;
 
 /// What stands for an address below 0: no listing has it.
-// Kept a number and not an Option: an address past the end is no listing's either, and one comparison refuses both.
+// Past the end of every listing, so that one comparison with the length refuses all targets outside.
 pub const NOWHERE: u32 = 0xFFFF_FFFF;
 
 /// The target of a jump by `k` words, counted from the address after `at`.

@@ -45,7 +45,6 @@ pub(crate) fn listed(first: &[u16], last: Option<u8>) -> Sources
     ensures { list_of result ≡ first.now ++ option_to_list last }
 {
     let mut sources = Sources::none();
-    // No fold: its closure would have to be told each time that there is room.
     for place in first {
         sources = sources.and(*place);
     }

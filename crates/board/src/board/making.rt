@@ -1,16 +1,18 @@
 //! Making a board, and the calls that load, read and clear it.
-ghost use Rattle.std.specs.Prelude.{◌≡◌, ℕ, ◌<◌, ◌≤◌, length, IfOk};
-ghost use Rattle.verdicts.specs.Verdict.{fine, says, outcome, making};
+ghost use Rattle.std.specs.Prelude.{◌≡◌, ℕ, ◌<◌, ◌≤◌, length, IfOk, IfErr};
+ghost use Rattle.verdicts.specs.Verdict.{says, outcome, making};
 ghost use Rattle.machine.specs.Calls.{fresh, done, clear as clear_call, put as put_call, read as read_call};
 ghost use Rattle.avr.specs.Chip.{instruction_of, avr};
 ghost use Rattle.board.specs.Steps.{Fetched};
-ghost use Rattle.board.specs.Faults.{making_of, making_refusal, put_answer, read_answer};
+ghost use Rattle.board.specs.Faults.{making_of, making_refusal, unmade_refusal, put_answer, read_answer};
+ghost use Rattle.board.specs.Loans.{SameLoan};
 ghost use Rattle.board.specs.States.{board_of, words_of, Works, Lent};
 
 use crate::board::Board;
 use crate::chip::Chip;
 use crate::chip::access::is_valid;
-use crate::fault::{CallFault, MakingFault};
+use crate::fault::{CallFault, MakingFault, Unmade};
+use crate::memory::Memory;
 use arrayvec::ArrayVec;
 use avr::location::Location;
 use cells::cell::Cell;
@@ -19,46 +21,38 @@ use std::array;
 use words::instruction::Instruction;
 use words::listing::Listing;
 
-/// The instruction of the word at an address; past the last word it is that of 0.
-// Two lines that `RoutineView` of row_layout has too, which stands above the rows: a board has none.
-fn instruction_at(words: &[u16], at: usize) -> Instruction
-    ensures { result ≡ instruction_of words.now at }
+/// The instruction at an address of a listing; past its end it is a nop, as word 0 is.
+fn instruction_at(listing: &Listing<'_>, at: u16) -> Instruction
+    ensures { result ≡ instruction_of listing.now.words.now at }
 {
-    let word = words.get(at).copied().unwrap_or(0);
+    let word = listing.word(at).unwrap_or(0);
     Instruction::decode(word).unwrap_or(Instruction::Nop)
 }
 
-/// The cells of at most 1,024 words.
-fn cells_of(words: &[u16]) -> [Cell; 1024]
-    requires { length words.now ≤ 1024 }
-    ensures { Fetched words.now result }
+/// The cells of a listing; those past its end are of nops.
+fn cells_of(listing: &Listing<'_>) -> [Cell; 1024]
+    ensures { Fetched listing.now.words.now result }
 {
-    array::from_fn(|at| Cell::new(at as u16, instruction_at(words, at)))
+    array::from_fn(|at| Cell::new(at as u16, instruction_at(listing, at as u16)))
 }
 
 impl<'w, 'm> Board<'w, 'm> {
-    // The project asks for a making that cannot refuse, after a check that may: `new` after `check`.
-    /// Whether a board can be made of words and lent bytes. Nothing is changed.
-    pub fn check(words: &[u16], memory: &[u8]) -> Result<(), MakingFault>
-        ensures { says making_refusal result ≡ making_of words.now memory.now }
+    /// Whether a board can be made of words and lent bytes: refused where the words are no listing, or else where there are not 65,536
+    /// bytes. Nothing is changed.
+    pub fn check(words: &[u16], bytes: &[u8]) -> Result<(), MakingFault>
+        ensures { says making_refusal result ≡ making_of words.now bytes.now }
     {
         Listing::check(words)?;
-        if memory.len() != 65536 {
-            return Err(MakingFault::Memory);
-        }
-        Ok(())
+        Memory::check(bytes)
     }
 
-    /// The board of words and lent bytes that `check` has just accepted: everything is 0, the lent bytes too, and it is
-    /// loading.
-    pub fn new(words: &'w [u16], memory: &'m mut [u8]) -> Self
-        requires { making_of words.now memory.old ≡ fine }
-        ensures state { board_of result ≡ fresh (avr words.now) }
-        ensures words { words_of result ≡ words.now }
-        ensures lent { result.chip.memory.ghost_name ≡ memory.entry.ghost_name }
+    /// The board of a listing and of a memory: everything is 0, the lent bytes too, and it is loading.
+    pub fn new(listing: Listing<'w>, memory: Memory<'m>) -> Self
+        ensures state { board_of result ≡ fresh (avr listing.entry.words.now) }
+        ensures words { words_of result ≡ listing.entry.words.now }
+        ensures lent { result.chip.memory.ghost_name ≡ memory.entry.bytes.ghost_name }
     {
-        let listing = Listing::new(words);
-        let cells = cells_of(words);
+        let cells = cells_of(&listing);
         let chip = Chip::new(memory);
         Board {
             listing,
@@ -71,15 +65,19 @@ impl<'w, 'm> Board<'w, 'm> {
         }
     }
 
-    /// The board of words and lent bytes, as `new` makes it, or the first reason why there is none.
-    // That a refusal leaves the bytes alone no clause can say, since the loan is given away: what refuses sees them behind a `&`.
-    pub fn try_new(words: &'w [u16], memory: &'m mut [u8]) -> Result<Self, MakingFault>
-        ensures state { outcome board_of making_refusal result ≡ making (making_of words.now memory.old) (fresh (avr words.now)) }
+    /// The board of words and of 65,536 lent bytes, as `new` makes it. Where `check` refuses, so does
+    /// this call, and it hands the bytes back as they were.
+    pub fn try_new(words: &'w [u16], bytes: &'m mut [u8]) -> Result<Self, Unmade<'m>>
+        ensures state { outcome board_of unmade_refusal result ≡ making (making_of words.now bytes.old) (fresh (avr words.now)) }
         ensures words { IfOk result (λ board. words_of board ≡ words.now) }
-        ensures lent { IfOk result (λ board. board.chip.memory.ghost_name ≡ memory.entry.ghost_name) }
+        ensures lent { IfOk result (λ board. board.chip.memory.ghost_name ≡ bytes.entry.ghost_name) }
+        ensures back { IfErr result (λ unmade. SameLoan unmade.bytes bytes.entry) }
     {
-        Board::check(words, memory)?;
-        Ok(Board::new(words, memory))
+        if let Err(fault) = Board::check(words, bytes) {
+            return Err(Unmade { fault, bytes });
+        }
+        let listing = Listing::new(words);
+        Ok(Board::new(listing, Memory::new(bytes)))
     }
 
     /// Sets everything to 0 again, and the phase to loading.

@@ -1,7 +1,7 @@
 //! Runs: steps up to a limit of cycles.
 ghost use Rattle.std.specs.Prelude.{◌≡◌, ◌+◌, length, nat_lt};
 ghost use Rattle.machine.specs.Run.{step as step_of, Runs};
-ghost use Rattle.machine.specs.Laws.{Counts};
+ghost use Rattle.machine.specs.Laws.{RunCounts, CountsLives};
 ghost use Rattle.machine.specs.Calls.{ends, run as run_call};
 ghost use Rattle.avr.specs.Chip.{instruction_of, avr};
 ghost use Rattle.cells.specs.declared.cell.Leave.TheVariants.{Jump, Call, Return};
@@ -10,7 +10,7 @@ ghost use Rattle.cells.specs.Works.{Fits};
 ghost use Rattle.cells.specs.Cells.{Shows};
 ghost use Rattle.board.specs.Moves.{step_by_way, landing_of};
 ghost use Rattle.board.specs.Steps.{Paid};
-ghost use Rattle.board.specs.States.{state_of, words_of, stepped, Works, Lent};
+ghost use Rattle.board.specs.States.{state_of, board_of, words_of, stepped, Works, Lent};
 
 use crate::board::Board;
 use cells::cell::{Cell, Leave, Way};
@@ -18,9 +18,7 @@ use cells::work::Work;
 use machine::phase::{Ending, Phase, Stop};
 use std::ops::ControlFlow;
 
-// That words and lent bytes stay the same (`Lent`) is said by each method that changes a board. A part of it with the address,
-// the returns and the count alone would say so once, but would be passed the listing's length in each call, and would have to
-// say of each that the address stays below it.
+// Each method that changes a board says in a clause that words and lent bytes stay the same (`Lent`).
 impl Board<'_, '_> {
     /// The cell of the word at which the board stands.
     fn fetch(&self) -> &Cell
@@ -30,7 +28,6 @@ impl Board<'_, '_> {
     }
 
     /// The count after so many cycles more, unless they pass the limit.
-    // The limit is the run's and the cycles are the word's: a struct of both would be made anew for each word.
     fn paid(&self, limit: u32, cycles: u8) -> ControlFlow<Ending, u32>
         ensures { Paid limit (self.now.count + cycles) result }
     {
@@ -152,7 +149,7 @@ impl Board<'_, '_> {
     }
 
     /// Goes on up to a limit of cycles, unless the board has ended or is stopped.
-    // Apart from `run`, which adds what is true of every machine: that the count is a sum.
+    // `run` adds what is true of every machine: that the count is a sum.
     fn carry_on(&mut self, limit: u32) -> Ending
         ensures state { Works (run_call limit) self.old self.new (ends result) }
         ensures same { Lent self.old self.new }
@@ -172,7 +169,8 @@ impl Board<'_, '_> {
     pub fn run(&mut self, limit: u32) -> Ending
         ensures state { Works (run_call limit) self.old self.new (ends result) }
         ensures same { Lent self.old self.new }
-        ensures counts { Counts (avr (words_of self.old)) limit (state_of self.old) }
+        ensures counts { RunCounts (avr (words_of self.old)) limit (board_of self.old) (board_of self.new) result }
+        ensures lives { CountsLives (avr (words_of self.old)) }
     {
         self.carry_on(limit)
     }

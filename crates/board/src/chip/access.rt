@@ -1,22 +1,23 @@
 //! Clearing the chip, and access to its places.
-ghost use Rattle.std.specs.Prelude.{◌≡◌, ◌<◌, true, length};
+ghost use Rattle.std.specs.Prelude.{◌≡◌, ◌<◌, true};
 ghost use Rattle.avr.specs.Chip.{blank_core, put_of, get_of, valid_of};
 ghost use Rattle.board.specs.Cores.{core_of};
 
 use crate::chip::Chip;
 use crate::chip::registers::Registers;
+use crate::memory::Memory;
 use avr::location::Location;
 
-// That the lent bytes stay the same ones (`lent`) is said by each method that changes a chip: no invariant speaks of before and after.
+// Each method that changes a chip says in its clause `lent` that the lent bytes stay the same ones.
 impl<'m> Chip<'m> {
     /// The chip on lent bytes, all cleared.
-    pub(crate) fn new(memory: &'m mut [u8]) -> Self
-        requires { length memory.old ≡ 65536 }
+    pub(crate) fn new(memory: Memory<'m>) -> Self
         ensures state { core_of result ≡ blank_core }
-        ensures lent { result.memory.ghost_name ≡ memory.entry.ghost_name }
+        ensures lent { result.memory.ghost_name ≡ memory.entry.bytes.ghost_name }
     {
+        let Memory { bytes } = memory;
         let mut chip = Chip {
-            memory,
+            memory: bytes,
             registers: Registers::blank(),
         };
         chip.clear();
@@ -57,7 +58,6 @@ impl<'m> Chip<'m> {
 }
 
 /// Whether there is such a place.
-// A match, since one arm is a comparison: `matches!` with an `if` would say it no plainer.
 pub(crate) fn is_valid(location: Location) -> bool
     ensures { result ≡ valid_of location }
 {

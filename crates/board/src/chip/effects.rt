@@ -9,7 +9,7 @@ use crate::chip::Chip;
 use cells::cell::Test;
 use cells::work::{Access, Reach, Step, Work};
 
-// That the lent bytes stay the same ones (`lent`) is said by each method that changes a chip: no invariant speaks of before and after.
+// Each method that changes a chip says in its clause `lent` that the lent bytes stay the same ones.
 impl Chip<'_> {
     /// Stores the register at an address, or loads it from there.
     fn transfer(&mut self, store: bool, register: u8, address: u16)
@@ -52,7 +52,6 @@ impl Chip<'_> {
     }
 
     /// Carries a word's work out.
-    // Data and no closure: cells are kept in fixed memory, and the gate lets no function hand a boxed closure out.
     pub(crate) fn perform(&mut self, work: Work)
         requires { Fits work }
         ensures state { core_of self.new ≡ work_effect work (core_of self.old) }

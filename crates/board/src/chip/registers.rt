@@ -18,8 +18,7 @@ pub struct Registers {
     pub zero: bool,
 }
 
-// Which register a word names is a number in the word's cell, and `Fits` says there that it is below 32. A type of such numbers
-// would have to begin with the instructions, which hold whatever number they are made of.
+// A register's number comes from a cell, and `Fits` says there that it is below 32.
 impl Registers {
     /// All cleared.
     pub(crate) fn blank() -> Registers

@@ -23,7 +23,7 @@ fn test(instruction: Instruction) -> Test
             ..
         } => Test::Zero(set),
         Instruction::Binary { d, r, .. } => Test::Equal(d, r),
-        // Not met: only a branch and a cpse fork, and a conversion is total.
+        // Not reached: only a branch and a cpse fork, and a conversion is total.
         _ => Test::Equal(0, 0),
     }
 }

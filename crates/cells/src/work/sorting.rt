@@ -68,7 +68,6 @@ fn work_on_two(op: BinaryOp, d: u8, operand: Operand) -> Work
 }
 
 /// The work of an operation on one register.
-// Kept a function, as `reach` below: a From would offer to all crates what is a step of the one From of this file.
 fn work_on_one(op: UnaryOp) -> Unary
     ensures { result ≡ unary_work op }
 {

@@ -13,7 +13,7 @@ use words::instruction::Instruction;
 use words::route::Route;
 
 /// Whether an instruction stays in its function: it neither calls nor returns.
-// Here and below, an instruction goes with its address, though the address gives it: each check decodes it once.
+// An instruction is passed along with its address, so that each check decodes a word only once.
 fn is_local(at: u16, instruction: Instruction) -> bool
     ensures { result ≡ local (kind_of at instruction) }
 {

@@ -14,7 +14,7 @@ use std::array;
 use words::instruction::Instruction;
 use words::route::Route;
 
-// An instruction goes with its address, though the address gives it: each check decodes it once.
+// An instruction is passed along with its address, so that each check decodes a word only once.
 impl<O: Order> Judgement<'_, O> {
     /// The join of a level and the levels of some places in a row.
     fn joined(&self, row: u32, base: u16, sources: &[u16]) -> u16

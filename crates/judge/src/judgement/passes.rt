@@ -11,7 +11,6 @@ use crate::judgement::departure::Departure;
 use levels::order::Order;
 use words::route::Route;
 
-// The loops count rows and addresses, which the checks take: rows are read by the total `cell`, which the rules speak of.
 impl<O: Order> Judgement<'_, O> {
     /// All rows in turn, the finish row too.
     #[tactic(auto, using(verdicts::proofs::Firsts::first_none, verdicts::proofs::Firsts::first_more))]

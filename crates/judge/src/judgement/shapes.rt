@@ -17,7 +17,6 @@ impl<O: Order> Judgement<'_, O> {
     fn check_codes(&self, row: u16) -> Result<(), RowFault>
         ensures { says row_refusal result ≡ first (held_rule (O.Order.meaning self.now.order.now) (length self.now.routine.words.now) self.now.routine.rows.now row) coded }
     {
-        // Columns: a code is read by the total `cell`, which the rules speak of.
         for column in 0..=REGION {
             if !self.order.holds(self.routine.cell(u32::from(row), column)) {
                 return Err(RowFault::NotHeld { row, column });

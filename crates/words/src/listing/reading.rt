@@ -19,7 +19,7 @@ fn check_length(words: &[u16]) -> Result<(), WordFault>
 
 impl<'a> Listing<'a> {
     /// Whether words can be a listing: refused by their length, or else for the first word that does not decode.
-    // The project asks for a making that cannot refuse, after a check that may: `new` after `check`.
+    // A pair, for callers that check first: what follows an accepted check is no `Result`.
     pub fn check(words: &[u16]) -> Result<(), WordFault>
         ensures { says word_refusal result ≡ legal_of words.now }
     {
