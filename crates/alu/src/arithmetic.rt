@@ -1,9 +1,9 @@
 //! Values and flags of the operations.
 ghost use Rattle.std.specs.Prelude.{◌≡◌, ◌≤◌, ◌<◌, ◌==◌, ℕ};
-ghost use Rattle.alu.specs.Arithmetic.{output as output_of, sum_of, difference_of, binary_output, counterpart as counterpart_of, unary_output, wide_output, product_of};
+ghost use Rattle.alu.specs.Arithmetic.{output as output_of, sum_of, difference_of, counterpart as counterpart_of, wide_output, product_of};
 
 use crate::output::{ByteOutput, Output, WordOutput};
-use words::instruction::{BinaryOp, ImmediateOp, UnaryOp, WideOp};
+use words::instruction::{BinaryOp, ImmediateOp, WideOp};
 
 /// The sum of two bytes and a carry.
 pub fn sum(a: u8, b: u8, carry: bool) -> ByteOutput
@@ -37,31 +37,6 @@ fn output<V: Copy + Into<u32>>(value: V, carry: bool) -> Output<V>
     }
 }
 
-/// What an operation on two bytes gives, from the flags before; cpse and mul leave the first byte and the flags.
-pub fn binary(op: BinaryOp, a: u8, b: u8, carry: bool, zero: bool) -> ByteOutput
-    ensures { result ≡ binary_output op a b carry zero }
-{
-    match op {
-        BinaryOp::Cpc | BinaryOp::Sbc => difference(a, b, carry, zero),
-        BinaryOp::Cp | BinaryOp::Sub => difference(a, b, false, true),
-        BinaryOp::Add => sum(a, b, false),
-        BinaryOp::Adc => sum(a, b, carry),
-        BinaryOp::And => output(a & b, carry),
-        BinaryOp::Eor => output(a ^ b, carry),
-        BinaryOp::Or => output(a | b, carry),
-        BinaryOp::Mov => Output {
-            value: b,
-            carry,
-            zero,
-        },
-        BinaryOp::Cpse | BinaryOp::Mul => Output {
-            value: a,
-            carry,
-            zero,
-        },
-    }
-}
-
 /// The operation on two registers that does what this one does on a register and a constant.
 pub fn counterpart(op: ImmediateOp) -> BinaryOp
     ensures { result ≡ counterpart_of op }
@@ -72,19 +47,6 @@ pub fn counterpart(op: ImmediateOp) -> BinaryOp
         ImmediateOp::Subi => BinaryOp::Sub,
         ImmediateOp::Andi => BinaryOp::And,
         ImmediateOp::Ldi => BinaryOp::Mov,
-    }
-}
-
-/// What an operation on one byte gives, from the carry before.
-pub fn unary(op: UnaryOp, a: u8, carry: bool) -> ByteOutput
-    ensures { result ≡ unary_output op a carry }
-{
-    match op {
-        UnaryOp::Neg => difference(0, a, false, true),
-        UnaryOp::Inc => output(a.wrapping_add(1), carry),
-        UnaryOp::Dec => output(a.wrapping_sub(1), carry),
-        UnaryOp::Lsr => output(a / 2, a % 2 == 1),
-        UnaryOp::Ror => output(128 * u8::from(carry) + a / 2, a % 2 == 1),
     }
 }
 

@@ -4,7 +4,7 @@ use Rattle.std.specs.Option.{unwrap_or}
 use Rattle.words.specs.declared.instruction.Instruction.{Instruction}
 use Rattle.words.specs.declared.instruction.Instruction.TheVariants.{Nop}
 use Rattle.words.specs.declared.route.Route.{Route}
-use Rattle.words.specs.declared.route.Route.TheVariants.{To, Fork, Call, Return}
+use Rattle.words.specs.declared.route.Route.TheVariants.{To, Jump, Fork, Call, Return}
 use Rattle.words.specs.Decode.{decode_of}
 use Rattle.words.specs.Cycles.{cycles_of}
 use Rattle.words.specs.Routes.{route_of}
@@ -19,9 +19,10 @@ use Rattle.avr.specs.Table.{holds_of, origins_of, deciders_of, memory_place}
 abbrev pub instruction_of : List ℕ → ℕ → Instruction
 instruction_of ws a = unwrap_or (decode_of (slice_index ws a)) Nop
 
--- where an instruction leads, at its cycles; rcall and ret always divert
+-- where an instruction leads, at its cycles; rjmp, rcall and ret always divert
 abbrev pub kind_by : Route → Instruction → Kind
 kind_by (To b) i = plain b (cycles_of i false)
+kind_by (Jump b) i = plain b (cycles_of i true)
 kind_by (Fork b b') i = forks (deciders_of i) b (cycles_of i false) b' (cycles_of i true)
 kind_by (Call t) i = calls t (cycles_of i true)
 kind_by Return i = rets (cycles_of i true)

@@ -134,33 +134,11 @@ agrees false false = true
 
 -- of the operations on two registers only cpse may go aside
 abbrev pub binary_diverts : BinaryOp → ℕ → ℕ → Core → Bool
-binary_diverts binary.Cpc d r x = false
-binary_diverts binary.Sbc d r x = false
-binary_diverts binary.Add d r x = false
 binary_diverts binary.Cpse d r x = reg x.registers d == reg x.registers r
-binary_diverts binary.Cp d r x = false
-binary_diverts binary.Sub d r x = false
-binary_diverts binary.Adc d r x = false
-binary_diverts binary.And d r x = false
-binary_diverts binary.Eor d r x = false
-binary_diverts binary.Or d r x = false
-binary_diverts binary.Mov d r x = false
-binary_diverts binary.Mul d r x = false
+binary_diverts _ d r x = false
 
 -- whether a fork goes aside: cpse skips where its registers are equal, and a branch is taken where its flag is as it asks
 abbrev pub diverts_of : Instruction → Core → Bool
 diverts_of (Binary op d r) x = binary_diverts op d r x
-diverts_of (Immediate op d k) x = false
-diverts_of (Wide op d k) x = false
-diverts_of (Movw d r) x = false
-diverts_of (Unary op d) x = false
-diverts_of (Load m d) x = false
-diverts_of (Store m r) x = false
-diverts_of (LoadDisplaced b q d) x = false
-diverts_of (StoreDisplaced b q r) x = false
-diverts_of (Rjmp k) x = false
-diverts_of (Rcall k) x = false
 diverts_of (Branch f wanted k) x = agrees wanted (flag_of f x)
-diverts_of Ret x = false
-diverts_of Clc x = false
-diverts_of Nop x = false
+diverts_of _ x = false

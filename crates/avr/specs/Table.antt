@@ -135,33 +135,11 @@ flag_place flag.Zero = zero_place
 
 -- of the operations on two registers only cpse asks something
 abbrev pub binary_deciders : BinaryOp → ℕ → ℕ → List ℕ
-binary_deciders binary.Cpc d r = []
-binary_deciders binary.Sbc d r = []
-binary_deciders binary.Add d r = []
 binary_deciders binary.Cpse d r = d ∷ (r ∷ [])
-binary_deciders binary.Cp d r = []
-binary_deciders binary.Sub d r = []
-binary_deciders binary.Adc d r = []
-binary_deciders binary.And d r = []
-binary_deciders binary.Eor d r = []
-binary_deciders binary.Or d r = []
-binary_deciders binary.Mov d r = []
-binary_deciders binary.Mul d r = []
+binary_deciders _ d r = []
 
 -- the places that decide which way a fork goes: the two registers of cpse, the flag of a branch
 abbrev pub deciders_of : Instruction → List ℕ
 deciders_of (Binary op d r) = binary_deciders op d r
-deciders_of (Immediate op d k) = []
-deciders_of (Wide op d k) = []
-deciders_of (Movw d r) = []
-deciders_of (Unary op d) = []
-deciders_of (Load m d) = []
-deciders_of (Store m r) = []
-deciders_of (LoadDisplaced b q d) = []
-deciders_of (StoreDisplaced b q r) = []
-deciders_of (Rjmp k) = []
-deciders_of (Rcall k) = []
 deciders_of (Branch f set k) = flag_place f ∷ []
-deciders_of Ret = []
-deciders_of Clc = []
-deciders_of Nop = []
+deciders_of _ = []

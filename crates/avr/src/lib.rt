@@ -2,11 +2,10 @@
 //! places each written place comes.
 //!
 //! The effects are definitions in specs/, made of those of `alu`, and `specs/Chip` ties them to the words as a machine in the
-//! sense of `machine`. The code has the table of sources, which levels follow, what a put or a read names, and the calls that boards are given. Nothing here
-//! runs: boards stand above, and levels are unknown to it.
+//! sense of `machine`. The code has the table of sources, which levels follow, and what a put or a read names.
+//! Nothing here runs: boards stand above, and levels are unknown to it.
 #![tactic(auto)]
 
-pub mod calls;
 pub mod location;
 pub mod pointer;
 pub mod sources;

@@ -1,127 +1,49 @@
-//! A benchmark of the board: a long loop that hides nothing, with words of many kinds.
+//! How fast board and judge are.
 //!
-//! Without arguments it makes one short run and prints what came of it, always the same lines. With a number it makes that
-//! many long runs and prints how fast they went.
+//! Without arguments one short run of a board and one judgement of each shape of routine are made and printed, always the same
+//! lines. `bench board N` makes N long runs of a board and prints how fast they went, and `bench judge N` judges routines of
+//! each shape, of three lengths, N times and prints how long that took.
 #![tactic(auto)]
 
-ghost use Rattle.std.specs.Prelude.{◌≡◌, ◌+◌, ◌*◌};
+mod judging;
+mod running;
 
 use anyhow::anyhow;
-use avr::location::Location;
-use board::board::Board;
-use board::fault::CallFault;
-use machine::phase::Ending;
 use std::env;
-use std::time::Instant;
 
-/// The routine. Pair 24 holds how many rounds it makes; a round makes 32 turns, and each turn calls a function.
-const ROUTINE: [u16; 33] = [
-    0xE12D, // ldi r18, 29
-    0xE0A0, // ldi r26, 0     a round: X is 256
-    0xE0B1, // ldi r27, 1
-    0xE0C0, // ldi r28, 0     Y is 512
-    0xE0D2, // ldi r29, 2
-    0xE240, // ldi r20, 32
-    0x910D, // ld r16, X+     a turn
-    0x0F02, // add r16, r18
-    0x1F10, // adc r17, r16
-    0x9506, // lsr r16
-    0x9517, // ror r17
-    0x2721, // eor r18, r17
-    0x9F02, // mul r16, r18
-    0x0D20, // add r18, r0
-    0x1D11, // adc r17, r1
-    0x9319, // st Y+, r17
-    0x815B, // ldd r21, Y+3
-    0x1B15, // sub r17, r21
-    0x0B24, // sbc r18, r20
-    0x01F8, // movw r30, r16
-    0x7FE0, // andi r30, 240
-    0x3241, // cpi r20, 33
-    0xF428, // brcc           to the last ret; never taken
-    0xD005, // rcall          the function
-    0x954A, // dec r20
-    0xF761, // brne           the next turn
-    0x9701, // sbiw r24, 1
-    0xF729, // brne           the next round
-    0x9508, // ret
-    0x9533, // inc r19        the function
-    0x2F63, // mov r22, r19
-    0x9635, // adiw r30, 5
-    0x9508, // ret
-];
-
-/// How many rounds a short run makes.
-const SHORT: u16 = 100;
-
-/// How many rounds a long run makes.
-const LONG: u16 = 65535;
-
-/// How many instructions a run of so many rounds carries out: two besides the rounds, and 775 in each.
-fn instructions(rounds: u16) -> u64
-    ensures { result ≡ 2 + 775 * rounds }
-{
-    2 + 775 * u64::from(rounds)
+/// What is to be measured.
+#[derive(Clone, Copy)]
+enum Measured {
+    /// So many long runs of a board.
+    Runs(u32),
+    /// So many judgements of each routine.
+    Judgements(u32),
 }
 
-/// What an ending carries.
-fn cycles_of(ending: Ending) -> u32 {
-    match ending {
-        Ending::Spent(cycles) | Ending::Ended(cycles) | Ending::Stopped(_, cycles) => cycles,
+/// What the arguments ask for, if there are any.
+fn asked(rt: &HostRuntime) -> anyhow::Result<Option<Measured>> {
+    let mut words = env::args(rt)?.skip(1);
+    let Some(part) = words.next() else {
+        return Ok(None);
+    };
+    let times = words.next().ok_or_else(|| anyhow!("how many times?"))?;
+    let times = times.as_str().parse()?;
+    match part.as_str() {
+        "board" => Ok(Some(Measured::Runs(times))),
+        "judge" => Ok(Some(Measured::Judgements(times))),
+        _ => Err(anyhow!("measure what: board or judge?")),
     }
 }
 
-/// Clears the board and makes one run of so many rounds: its cycles, and the byte that it leaves in register 18.
-fn play(board: &mut Board, rounds: u16) -> Result<(u32, u8), CallFault> {
-    board.clear();
-    let [low, high] = rounds.to_le_bytes();
-    board.put(Location::Register(24), low)?;
-    board.put(Location::Register(25), high)?;
-    let cycles = cycles_of(board.run(u32::MAX));
-    Ok((cycles, board.read(Location::Register(18))?))
-}
-
-/// One short run.
-fn show(rt: &HostRuntime, board: &mut Board) -> anyhow::Result<()> {
-    let (cycles, byte) = play(board, SHORT).map_err(|_| anyhow!("a call was refused"))?;
-    let carried_out = instructions(SHORT);
-    println!(rt; "{carried_out} instructions, {cycles} cycles, register 18 holds {byte}")?;
-    Ok(())
-}
-
-/// Long runs, and how fast they went.
-fn measure(rt: &HostRuntime, board: &mut Board, runs: u32) -> anyhow::Result<()> {
-    let start = Instant::now(rt)?;
-    let mut cycles = 0u64;
-    let mut last = 0;
-    for _ in 0..runs {
-        let (spent, byte) = play(board, LONG).map_err(|_| anyhow!("a call was refused"))?;
-        cycles = cycles.saturating_add(u64::from(spent));
-        last = byte;
-    }
-    let micros = start.elapsed(rt)?.as_micros().max(1);
-    let carried_out = u64::from(runs).saturating_mul(instructions(LONG));
-    let rate = u128::from(carried_out) * 1_000_000 / micros;
-    println!(rt; "{carried_out} instructions, {cycles} cycles, register 18 holds {last}")?;
-    println!(rt; "{micros} microseconds, {rate} instructions per second")?;
-    Ok(())
-}
-
-/// How many long runs the program is asked for, if it is called with a number.
-// `judging_bench` has these lines too: a crate for the two would be longer.
-fn runs_asked(rt: &HostRuntime) -> anyhow::Result<Option<u32>> {
-    let word = env::args(rt)?.nth(1);
-    Ok(word.map(|word| word.as_str().parse()).transpose()?)
-}
-
-/// Makes the board and works it.
+/// Measures what is asked for, or shows one of each.
 fn bench(rt: &HostRuntime) -> anyhow::Result<()> {
-    let mut memory = [0u8; 65536];
-    let made = Board::try_new(&ROUTINE, &mut memory);
-    let mut board = made.map_err(|_| anyhow!("no board can be made"))?;
-    match runs_asked(rt)? {
-        Some(runs) => measure(rt, &mut board, runs),
-        None => show(rt, &mut board),
+    match asked(rt)? {
+        Some(Measured::Runs(runs)) => running::measure(rt, runs),
+        Some(Measured::Judgements(times)) => judging::measure(rt, times),
+        None => {
+            running::show(rt)?;
+            judging::show(rt)
+        }
     }
 }
 

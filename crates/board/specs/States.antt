@@ -5,7 +5,9 @@ use Rattle.std.specs.declared.ops.ControlFlow.TheVariants.{Continue, Break}
 use Rattle.machine.specs.declared.phase.Ending.{Ending}
 use Rattle.machine.specs.Run.{State, state, Step, moves, stops}
 use Rattle.machine.specs.Calls as calls
+use Rattle.avr.specs.declared.location.Location.{Location}
 use Rattle.avr.specs.Core.{Core}
+use Rattle.avr.specs.Chip.{avr}
 use Rattle.board.specs.declared.board.Board.{Board}
 use Rattle.board.specs.Cores.{core_of}
 
@@ -38,3 +40,7 @@ stepped (Break e) s = stops s e
 -- a board after a call, with the call's answer
 abbrev pub after : Board → calls.Answer → calls.Done Core
 after b a = record { board = board_of b; answer = a }
+
+-- a board goes from b to b' and answers as the call makes it
+abbrev pub Works : calls.Call Location → Board → Board → calls.Answer → Type 0
+Works call b b' answer = after b' answer ≡ calls.does (avr (words_of b)) call (board_of b)

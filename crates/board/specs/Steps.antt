@@ -1,6 +1,9 @@
 -- The cells of a listing, and one step by a cell. Assumes nothing.
-use Rattle.std.specs.Prelude.{◌≡◌, ℕ, ◌+◌, ◌<◌, Bool, false, cond, List, length, slice_index_or}
+use Rattle.std.specs.Prelude.{◌≡◌, ℕ, ◌+◌, ◌<◌, Bool, true, false, cond, List, length, nat_lt, slice_index_or}
+use Rattle.std.specs.declared.ops.ControlFlow.{ControlFlow}
+use Rattle.std.specs.declared.ops.ControlFlow.TheVariants.{Continue, Break}
 use Rattle.machine.specs.declared.phase.Stop.TheVariants.{Deep}
+use Rattle.machine.specs.declared.phase.Ending.{Ending}
 use Rattle.machine.specs.declared.phase.Ending.TheVariants as ending
 use Rattle.machine.specs.Machine.{Kind}
 use Rattle.machine.specs.Run as run
@@ -33,3 +36,8 @@ step_by size limit k aside y s =
 -- one step by a cell's way
 abbrev pub step_in : ℕ → ℕ → Way → ℕ → ℕ → State Core → Step Core
 step_in size limit w on aside s = step_by size limit (kind_in s.at w on aside) (diverts_in w s.body) (effect_in w s.body) s
+
+-- cycles are paid if the count with them does not pass the limit, and else the run is spent
+abbrev pub Paid : ℕ → ℕ → ControlFlow Ending ℕ → Type 0
+Paid limit total (Continue count) = (nat_lt limit total ≡ false) × (count ≡ total)
+Paid limit total (Break e) = (nat_lt limit total ≡ true) × (e ≡ ending.Spent limit)

@@ -29,42 +29,13 @@ flag_test flag.Zero set = test.Zero set
 -- what an instruction that forks asks; of the others nothing depends on it
 abbrev pub test_in : Instruction → Test
 test_in (instruction.Binary op d r) = test.Equal d r
-test_in (instruction.Immediate op d k) = test.Equal 0 0
-test_in (instruction.Wide op d k) = test.Equal 0 0
-test_in (instruction.Movw d r) = test.Equal 0 0
-test_in (instruction.Unary op d) = test.Equal 0 0
-test_in (instruction.Load m d) = test.Equal 0 0
-test_in (instruction.Store m r) = test.Equal 0 0
-test_in (instruction.LoadDisplaced b q d) = test.Equal 0 0
-test_in (instruction.StoreDisplaced b q r) = test.Equal 0 0
-test_in (instruction.Rjmp k) = test.Equal 0 0
-test_in (instruction.Rcall k) = test.Equal 0 0
 test_in (instruction.Branch f set k) = flag_test f set
-test_in instruction.Ret = test.Equal 0 0
-test_in instruction.Clc = test.Equal 0 0
-test_in instruction.Nop = test.Equal 0 0
-
--- rjmp leaves for its target; the others that lead to one address do their work and go on
-abbrev pub onward : ℕ → Instruction → Way
-onward b (instruction.Binary op d r) = way.On (work_of (instruction.Binary op d r))
-onward b (instruction.Immediate op d k) = way.On (work_of (instruction.Immediate op d k))
-onward b (instruction.Wide op d k) = way.On (work_of (instruction.Wide op d k))
-onward b (instruction.Movw d r) = way.On (work_of (instruction.Movw d r))
-onward b (instruction.Unary op d) = way.On (work_of (instruction.Unary op d))
-onward b (instruction.Load m d) = way.On (work_of (instruction.Load m d))
-onward b (instruction.Store m r) = way.On (work_of (instruction.Store m r))
-onward b (instruction.LoadDisplaced s q d) = way.On (work_of (instruction.LoadDisplaced s q d))
-onward b (instruction.StoreDisplaced s q r) = way.On (work_of (instruction.StoreDisplaced s q r))
-onward b (instruction.Rjmp k) = way.Leave (leave.Jump b)
-onward b (instruction.Rcall k) = way.On (work_of (instruction.Rcall k))
-onward b (instruction.Branch f set k) = way.On (work_of (instruction.Branch f set k))
-onward b instruction.Ret = way.On (work_of instruction.Ret)
-onward b instruction.Clc = way.On (work_of instruction.Clc)
-onward b instruction.Nop = way.On (work_of instruction.Nop)
+test_in _ = test.Equal 0 0
 
 -- the way of an instruction that leads there
 abbrev pub way_by : Route → Instruction → Way
-way_by (route.To b) i = onward b i
+way_by (route.To b) i = way.On (work_of i)
+way_by (route.Jump b) i = way.Leave (leave.Jump b)
 way_by (route.Fork b b') i = way.Fork (test_in i) b'
 way_by (route.Call t) i = way.Leave (leave.Call t)
 way_by route.Return i = way.Leave leave.Return
@@ -95,7 +66,7 @@ TestFits (test.Equal d r) = (d < 32) × (r < 32)
 abbrev pub kind_in : ℕ → Way → ℕ → ℕ → Kind
 kind_in a (way.On w) on aside = plain (a + 1) on
 kind_in a (way.Fork t b) on aside = forks (places_of t) (a + 1) on b aside
-kind_in a (way.Leave (leave.Jump b)) on aside = plain b on
+kind_in a (way.Leave (leave.Jump b)) on aside = plain b aside
 kind_in a (way.Leave (leave.Call t)) on aside = calls t aside
 kind_in a (way.Leave leave.Return) on aside = rets aside
 

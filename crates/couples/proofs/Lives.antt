@@ -3,7 +3,7 @@ use Rattle.std.proofs.Common.{◌≡◌, ℕ, List, [], ◌∷◌, ◌++◌, ◌
 use Rattle.machine.specs.Calls as calls
 use Rattle.verdicts.proofs.Firsts.{and_fine}
 use Rattle.machine.specs.Calls.{does, fresh, answers_to, board_after}
-use Rattle.avr.specs.declared.calls.Call.{Call}
+use Rattle.machine.specs.declared.call.Call.{Call}
 use Rattle.avr.proofs.Sounds.{sound}
 use Rattle.secrecy.proofs.Hidings.{hiding}
 use Rattle.judge.proofs.Placed.{placed}
@@ -36,6 +36,6 @@ pub lived : (ws : List ℕ) (ks : List (calls.Call Location)) (b c : Board) (giv
 lived ws ks b c given new words w = rw (← words, ← new) w.answers
 
 -- what the judge promises, of answers that two boards gave
-pub hidden : (ws : List ℕ) (ks : List Call) (given : List Answers) → Lived ws ks given → Noninterference ws ks given
+pub hidden : (ws : List ℕ) (ks : List (Call Location)) (given : List Answers) → Lived ws ks given → Noninterference ws ks given
 hidden ws ks given h m laws rows accepted observer held allowed =
     rw (h.left_side, h.right_side) ((hiding m laws (avr ws) (sound ws) (placed ws) rows (and_fine _ _ accepted).1).couples observer held (both_calls ks) allowed)

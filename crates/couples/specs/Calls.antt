@@ -1,34 +1,28 @@
 -- What a call on both boards does. Assumes nothing.
-use Rattle.std.specs.Prelude.{◌≡◌}
 use Rattle.machine.specs.Calls as calls
 use Rattle.avr.specs.declared.location.Location.{Location}
 use Rattle.avr.specs.Core.{Core}
-use Rattle.avr.specs.Chip.{avr}
 use Rattle.secrecy.specs.Couples.{Both, clears, runs, reads, puts, left, right}
 use Rattle.verdicts.specs.Verdict.{Refusal}
 use Rattle.board.specs.declared.board.Board.{Board}
 use Rattle.board.specs.Faults.{making_refusal}
-use Rattle.board.specs.States.{board_of, words_of, after}
+use Rattle.board.specs.States.{board_of, Works}
 use Rattle.couples.specs.declared.answers.Answers.{Answers}
-use Rattle.avr.specs.declared.calls.Call.{Call}
-use Rattle.avr.specs.declared.calls.Call.TheVariants.{Clear, Put, Run, Read}
+use Rattle.machine.specs.declared.call.Call.{Call}
+use Rattle.machine.specs.declared.call.Call.TheVariants.{Clear, Put, Run, Read}
 use Rattle.couples.specs.declared.fault.Unmade.{Unmade}
 use Rattle.couples.specs.declared.working.Couple.{Couple}
 use Rattle.couples.specs.Answers.{answer_of}
 
 -- the call on both boards of which the secrecy theorem speaks
-abbrev pub both_of : Call → Both Location
+abbrev pub both_of : Call Location → Both Location
 both_of Clear = clears
 both_of (Put w x y) = puts w x y
 both_of (Run limit) = runs limit
 both_of (Read w) = reads w
 
--- one board goes from b to b' and answers as the call makes it
-abbrev pub Works : calls.Call Location → Board → Board → calls.Answer → Type 0
-Works call b b' answer = after b' answer ≡ calls.does (avr (words_of b)) call (board_of b)
-
 -- each of two boards does its side of a call and answers by it
-pub record Answered (call : Call) (b c b' c' : Board) (answers : Answers) : Type 0 where
+pub record Answered (call : Call Location) (b c b' c' : Board) (answers : Answers) : Type 0 where
   pub left_side : Works (left (both_of call)) b b' (answer_of answers.left)
   pub right_side : Works (right (both_of call)) c c' (answer_of answers.right)
 

@@ -5,7 +5,7 @@ use Rattle.levels.specs.Order.{Meaning, Laws}
 use Rattle.machine.specs.Calls as calls
 use Rattle.machine.specs.Calls.{fresh, answers_to, board_after}
 use Rattle.avr.specs.declared.location.Location.{Location}
-use Rattle.avr.specs.declared.calls.Call.{Call}
+use Rattle.machine.specs.declared.call.Call.{Call}
 use Rattle.avr.specs.Chip.{avr}
 use Rattle.secrecy.specs.Rows.{rows_of}
 use Rattle.secrecy.specs.Couples.{Both, left, right, AllAllowed, SameEach}
@@ -43,7 +43,7 @@ life_says (Err Room) = no_room
 life_says (Err (Making f)) = unmade (making_refusal f)
 
 -- the calls on both boards of which the secrecy theorem speaks
-abbrev pub both_calls : List Call → List (Both Location)
+abbrev pub both_calls : List (Call Location) → List (Both Location)
 both_calls calls = map both_of calls
 
 -- what the left board answered, call by call
@@ -60,12 +60,12 @@ pub record Works (ws : List ℕ) (ks : List (calls.Call Location)) (b c : Board)
   pub board : board_of c ≡ board_after (avr ws) ks (board_of b)
 
 -- a couple works some calls, each board its side of them
-pub record WorkedAll (calls : List Call) (b c : Couple) (given : List Answers) : Type 0 where
+pub record WorkedAll (calls : List (Call Location)) (b c : Couple) (given : List Answers) : Type 0 where
   pub left_side : Works (words_of b.left) (map left (both_calls calls)) b.left c.left (left_answers given)
   pub right_side : Works (words_of b.right) (map right (both_calls calls)) b.right c.right (right_answers given)
 
 -- Two boards, made anew on some words, lived through some calls: each gave the answers to its side of them.
-pub record Lived (ws : List ℕ) (calls : List Call) (given : List Answers) : Type 0 where
+pub record Lived (ws : List ℕ) (calls : List (Call Location)) (given : List Answers) : Type 0 where
   pub left_side : left_answers given ≡ answers_to (avr ws) (map left (both_calls calls)) (fresh (avr ws))
   pub right_side : right_answers given ≡ answers_to (avr ws) (map right (both_calls calls)) (fresh (avr ws))
 
@@ -73,7 +73,7 @@ pub record Lived (ws : List ℕ) (calls : List Call) (given : List Answers) : Ty
 -- if only the judgement accepts them with the words: to an observer of any level that is held, the answers of the two boards are the
 -- same, but for bytes read from places hidden in the finish row, where the calls differ only in bytes put into places hidden in the
 -- first row.
-abbrev pub Noninterference : List ℕ → List Call → List Answers → Type 0
+abbrev pub Noninterference : List ℕ → List (Call Location) → List Answers → Type 0
 Noninterference ws calls given =
     (m : Meaning) → Laws m → (rows : List ℕ) → judgement_of m ws rows ≡ fine → (observer : ℕ) → m.held observer ≡ true →
     AllAllowed m observer (avr ws) (rows_of (length ws) rows) (both_calls calls) →

@@ -7,11 +7,12 @@ ghost use Rattle.couples.specs.Lives.{life_of, life_says, WorkedAll, Lived, Noni
 use crate::answers::Answers;
 use crate::fault::LifeFault;
 use crate::working::{Call, Couple};
+use avr::location::Location;
 use board::memory::Memory;
 use words::listing::Listing;
 
 /// Works calls on a couple, one after another, and writes what it answers to each.
-fn work_all(couple: &mut Couple<'_, '_, '_>, calls: &[Call], answers: &mut [Answers])
+fn work_all(couple: &mut Couple<'_, '_, '_>, calls: &[Call<Location>], answers: &mut [Answers])
     requires { length calls.now ≤ length answers.old }
     ensures worked { WorkedAll calls.now couple.old couple.new (take (length calls.now) answers.new) }
     ensures beyond { drop (length calls.now) answers.new ≡ drop (length calls.now) answers.old }
@@ -45,7 +46,7 @@ pub fn live(
     words: &[u16],
     left: &mut [u8],
     right: &mut [u8],
-    calls: &[Call],
+    calls: &[Call<Location>],
     answers: &mut [Answers],
 ) -> Result<(), LifeFault>
     ensures answer { life_says result ≡ life_of words.now left.old right.old (length calls.now) (length answers.old) }

@@ -10,10 +10,11 @@ ghost use Rattle.couples.specs.Calls.{Answered, sides, unmade_refusal};
 
 use crate::answers::{Answer, Answers};
 use crate::fault::Unmade;
-pub use avr::calls::Call;
+use avr::location::Location;
 use board::board::Board;
 use board::fault::MakingFault;
 use board::memory::Memory;
+pub use machine::call::Call;
 use words::listing::Listing;
 
 /// Two boards that are given one call after another.
@@ -64,7 +65,7 @@ impl<'w, 'm, 'n> Couple<'w, 'm, 'n> {
     }
 
     /// Works a call on both boards, the left one first, and gives their answers.
-    pub fn work(&mut self, call: Call) -> Answers
+    pub fn work(&mut self, call: Call<Location>) -> Answers
         ensures answers { Answered call self.old.left self.old.right self.new.left self.new.right result }
         ensures lent { (Lent self.old.left self.new.left) × (Lent self.old.right self.new.right) }
     {

@@ -20,7 +20,7 @@ impl fmt::Display for Place {
 
 /// A call as routine files write it: one byte where a put gives both boards the same.
 #[derive(Clone, Copy)]
-pub struct Written(pub Call);
+pub struct Written(pub Call<Location>);
 
 impl fmt::Display for Written {
     fn fmt<W: fmt::Write>(&self, f: &mut fmt::Formatter<W>) -> fmt::Result {
@@ -50,7 +50,7 @@ impl fmt::Display for Written {
 /// Why both boards refuse a call, for whoever wrote it.
 #[derive(Clone, Copy)]
 struct Refusal {
-    call: Call,
+    call: Call<Location>,
     fault: CallFault,
 }
 
@@ -78,7 +78,7 @@ impl fmt::Display for Refusal {
 /// What a call came to: that it is done, a refusal where both boards refuse alike, or both answers.
 #[derive(Clone, Copy)]
 struct Outcome {
-    call: Call,
+    call: Call<Location>,
     answers: Answers,
 }
 
@@ -98,7 +98,11 @@ impl fmt::Display for Outcome {
 }
 
 /// Prints a call and what both boards answered to it.
-pub(crate) fn print_outcome(rt: &HostRuntime, call: Call, answers: Answers) -> io::Result<()> {
+pub(crate) fn print_outcome(
+    rt: &HostRuntime,
+    call: Call<Location>,
+    answers: Answers,
+) -> io::Result<()> {
     let written = Written(call);
     let outcome = Outcome { call, answers };
     println!(rt; "{written}: {outcome}")

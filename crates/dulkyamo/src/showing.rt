@@ -13,12 +13,11 @@ pub struct Cycles {
 impl fmt::Display for Cycles {
     fn fmt<W: fmt::Write>(&self, f: &mut fmt::Formatter<W>) -> fmt::Result {
         let on = self.instruction.cycles(false);
+        let diverted = self.instruction.cycles(true);
         match self.route {
-            Route::Fork(_, _) => {
-                let aside = self.instruction.cycles(true);
-                write!(f, "cycles {on} or {aside}")
-            }
-            Route::To(_) | Route::Call(_) | Route::Return => write!(f, "cycles {on}"),
+            Route::To(_) => write!(f, "cycles {on}"),
+            Route::Fork(_, _) => write!(f, "cycles {on} or {diverted}"),
+            Route::Jump(_) | Route::Call(_) | Route::Return => write!(f, "cycles {diverted}"),
         }
     }
 }
@@ -59,7 +58,7 @@ impl Next {
 impl fmt::Display for Next {
     fn fmt<W: fmt::Write>(&self, f: &mut fmt::Formatter<W>) -> fmt::Result {
         match self.route {
-            Route::To(to) => {
+            Route::To(to) | Route::Jump(to) => {
                 let to = self.address(to);
                 write!(f, "next {to}")
             }

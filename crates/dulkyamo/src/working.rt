@@ -1,5 +1,6 @@
 //! The steps of a routine, in order.
 use crate::calls::{Written, print_outcome};
+use avr::location::Location;
 use couples::answers::{Answer, Answers};
 use couples::fault::LifeFault;
 use couples::living::live;
@@ -23,7 +24,7 @@ pub(crate) struct Job<'r, 'o> {
 type Life = Result<Vec<Answers>, LifeFault>;
 
 /// The calls among some steps, in order.
-fn calls_of(heap: Global, steps: &[Step]) -> Result<Vec<Call>, AllocError> {
+fn calls_of(heap: Global, steps: &[Step]) -> Result<Vec<Call<Location>>, AllocError> {
     let mut calls = Vec::new(heap);
     for step in steps {
         if let Step::Call(call) = *step {
@@ -34,7 +35,7 @@ fn calls_of(heap: Global, steps: &[Step]) -> Result<Vec<Call>, AllocError> {
 }
 
 /// Works calls on a couple of boards, from their making on. Without calls no boards are made.
-fn live_through(heap: Global, words: &[u16], calls: &[Call]) -> Result<Life, AllocError> {
+fn live_through(heap: Global, words: &[u16], calls: &[Call<Location>]) -> Result<Life, AllocError> {
     if calls.is_empty() {
         return Ok(Ok(Vec::new(heap)));
     }
@@ -70,7 +71,12 @@ impl Job<'_, '_> {
 }
 
 /// Prints what boards answered to a call, which is the one of that number.
-fn print_answers(rt: &HostRuntime, call: Call, life: &Life, number: usize) -> io::Result<()> {
+fn print_answers(
+    rt: &HostRuntime,
+    call: Call<Location>,
+    life: &Life,
+    number: usize,
+) -> io::Result<()> {
     match life {
         Ok(answers) => match answers.get(number) {
             Some(answers) => print_outcome(rt, call, *answers),
@@ -81,7 +87,7 @@ fn print_answers(rt: &HostRuntime, call: Call, life: &Life, number: usize) -> io
 }
 
 /// Prints that a call has no boards.
-fn print_boardless(rt: &HostRuntime, call: Call, fault: LifeFault) -> io::Result<()> {
+fn print_boardless(rt: &HostRuntime, call: Call<Location>, fault: LifeFault) -> io::Result<()> {
     let written = Written(call);
     match fault {
         LifeFault::Making(fault) => {

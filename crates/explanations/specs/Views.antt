@@ -1,8 +1,8 @@
 -- What an explanation goes by. Assumes nothing.
-use Rattle.std.specs.Prelude.{ℕ, ◌+◌, Bool, false, not, ◌&&◌, ◌||◌, ◌==◌, if◌then◌else◌}
+use Rattle.std.specs.Prelude.{ℕ, ◌+◌, Bool, true, false, not, ◌&&◌, ◌||◌, ◌==◌, if◌then◌else◌}
 use Rattle.words.specs.declared.instruction.Instruction.{Instruction}
 use Rattle.words.specs.declared.route.Route.{Route}
-use Rattle.words.specs.declared.route.Route.TheVariants.{To, Fork, Call, Return}
+use Rattle.words.specs.declared.route.Route.TheVariants.{To, Jump, Fork, Call, Return}
 use Rattle.words.specs.Cycles.{cycles_of}
 use Rattle.words.specs.Routes.{route_of}
 use Rattle.secrecy.specs.Rows.{Rows}
@@ -12,12 +12,13 @@ use Rattle.secrecy.specs.Rules.{leaves, stays}
 abbrev pub aside_meant : Rows → ℕ → ℕ → ℕ → ℕ → ℕ → Bool
 aside_meant R a b on aside c = aside == b && (not (on == b) || (leaves R a b c || stays R a b c))
 
--- the cycles of a way that leads from a to b, by where the word leads
+-- the cycles of a way that leads from a to b, by where the word leads; rjmp, rcall and ret always divert
 abbrev pub cycles_by : Rows → ℕ → ℕ → Route → Instruction → ℕ
 cycles_by R a b (To t) i = cycles_of i false
+cycles_by R a b (Jump t) i = cycles_of i true
 cycles_by R a b (Fork on aside) i = cycles_of i (aside_meant R a b on aside (cycles_of i false))
-cycles_by R a b (Call t) i = cycles_of i false
-cycles_by R a b Return i = cycles_of i false
+cycles_by R a b (Call t) i = cycles_of i true
+cycles_by R a b Return i = cycles_of i true
 
 -- the cycles of the way that a refusal of its time means
 abbrev pub cycles_to : Rows → ℕ → ℕ → Instruction → ℕ

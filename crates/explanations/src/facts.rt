@@ -21,14 +21,15 @@ impl Refusal<'_> {
         ensures { result ≡ cycles_to (rows_in self.now.routine.rows) at next (instruction_of self.now.routine.words.now at) }
     {
         let instruction = self.routine.instruction(at);
-        let straight = instruction.cycles(false);
         match instruction.route(at) {
+            Route::To(_) => instruction.cycles(false),
             Route::Fork(on, aside) => {
+                let straight = instruction.cycles(false);
                 let in_time = self.routine.rows.leaves(at, next, straight)
                     || self.routine.rows.stays(at, next, straight);
                 instruction.cycles(aside == next && (on != next || in_time))
             }
-            Route::To(_) | Route::Call(_) | Route::Return => straight,
+            Route::Jump(_) | Route::Call(_) | Route::Return => instruction.cycles(true),
         }
     }
 

@@ -1,6 +1,7 @@
 -- Tables: levels whose joins are written out. Assumes nothing.
 use Rattle.std.specs.Prelude.{◌≡◌, ℕ, zero, suc, ◌+◌, ◌*◌, ◌≤◌, Bool, true, ◌&&◌, List, [], length, ◌==◌, nat_lt, slice_index}
 use Rattle.verdicts.specs.Verdict.{Verdict, and_then, rule}
+use Rattle.levels.specs.declared.table.square.Square.{Square}
 use Rattle.levels.specs.Order.{Meaning}
 use Rattle.levels.specs.Joins.{by_join}
 use Rattle.levels.specs.Faults.{sized}
@@ -8,6 +9,10 @@ use Rattle.levels.specs.Faults.{sized}
 -- the join of a and b in the bytes of a table of n levels: row a, column b
 abbrev pub join_in : List ℕ → ℕ → ℕ → ℕ → ℕ
 join_in bytes n a b = slice_index bytes (a * n + b)
+
+-- the joins that the bytes of a square say
+abbrev pub joins_of : Square → ℕ → ℕ → ℕ
+joins_of s = join_in s.bytes.now s.levels
 
 -- the order that the bytes of n levels stand for
 abbrev pub table : ℕ → List ℕ → Meaning

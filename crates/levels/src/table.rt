@@ -51,7 +51,8 @@ impl Table {
     pub fn fill(&mut self, levels: usize, bytes: &[u8]) -> Result<(), OrderFault>
         ensures answer { says refusal_of result ≡ filling levels bytes.now }
         ensures exact { Decides (is_ok result) (Fits levels bytes.now × Laws (table levels bytes.now)) }
-        ensures filled { is_ok result ≡ true → (self.new.levels ≡ levels) × (table self.new.levels self.new.joins ≡ table levels bytes.now) }
+        ensures levels { is_ok result ≡ true → self.new.levels ≡ levels }
+        ensures meaning { is_ok result ≡ true → table self.new.levels self.new.joins ≡ table levels bytes.now }
         ensures unchanged { is_err result ≡ true → self.new ≡ self.old }
     {
         if !(1..=16).contains(&levels) || bytes.len() != levels * levels {

@@ -7,6 +7,7 @@
 
 ghost use Rattle.machine.specs.Laws.{CountsStand};
 
+pub mod call;
 pub mod phase;
 
 /// A run is a chain of words, its count is the sum of the cycles along the chain, and its ending carries that count, or the

@@ -2,8 +2,9 @@
 use Rattle.std.specs.Prelude.{ℕ, Bool, true, false, [], ◌∷◌, Ok}
 use Rattle.routine.specs.declared.steps.Step.{Step}
 use Rattle.routine.specs.declared.steps.Step.TheVariants as step
-use Rattle.avr.specs.declared.calls.Call.{Call}
-use Rattle.avr.specs.declared.calls.Call.TheVariants.{Clear, Put, Run, Read}
+use Rattle.machine.specs.declared.call.Call.{Call}
+use Rattle.machine.specs.declared.call.Call.TheVariants.{Clear, Put, Run, Read}
+use Rattle.avr.specs.declared.location.Location.{Location}
 use Rattle.routine.specs.Operands as operands
 use Rattle.routine.specs.Operands.{Tokens, and_next, number_in, place_in}
 
@@ -22,23 +23,23 @@ abbrev pub judge_in : Tokens → operands.Read Step
 judge_in tokens = Ok (step.Judge, tokens)
 
 -- a call on the boards
-abbrev pub call_by : operands.Read Call → operands.Read Step
+abbrev pub call_by : operands.Read (Call Location) → operands.Read Step
 call_by reading = and_next reading (λ call rest. Ok (step.Call call, rest))
 
 -- a clearing has none
-abbrev pub clear_in : Tokens → operands.Read Call
+abbrev pub clear_in : Tokens → operands.Read (Call Location)
 clear_in tokens = Ok (Clear, tokens)
 
 -- a place, and a byte for both boards or one for each
-abbrev pub put_in : Tokens → operands.Read Call
+abbrev pub put_in : Tokens → operands.Read (Call Location)
 put_in tokens =
     and_next (place_in tokens) (λ place rest.
     and_next (number_in 0xFF rest) (λ left more. and_next (second_byte left more) (λ right last. Ok (Put place left right, last))))
 
 -- a limit has 32 bits
-abbrev pub run_in : Tokens → operands.Read Call
+abbrev pub run_in : Tokens → operands.Read (Call Location)
 run_in tokens = and_next (number_in 0xFFFFFFFF tokens) (λ limit rest. Ok (Run limit, rest))
 
 -- a place to be read
-abbrev pub read_in : Tokens → operands.Read Call
+abbrev pub read_in : Tokens → operands.Read (Call Location)
 read_in tokens = and_next (place_in tokens) (λ place rest. Ok (Read place, rest))

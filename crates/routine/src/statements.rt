@@ -10,7 +10,7 @@ use crate::keywords::Keyword;
 use crate::operands::{end, read_words};
 use crate::rows::{Entry, RowName, read_row};
 use crate::steps::{Step, read_put, read_read, read_run};
-use avr::calls::Call;
+use machine::call::Call;
 use orders::written::OrderText;
 use std::alloc::Global;
 use text::Line;

@@ -5,7 +5,8 @@ ghost use Rattle.routine.specs.Answers.{Finds};
 
 use crate::faults::Malformed;
 use crate::operands::{is_empty, read_number, read_place};
-use avr::calls::Call;
+use avr::location::Location;
+use machine::call::Call;
 use text::Line;
 
 /// What is to be done.
@@ -14,7 +15,7 @@ pub enum Step {
     /// The routine is judged.
     Judge,
     /// Both boards of a couple are given a call.
-    Call(Call),
+    Call(Call<Location>),
 }
 
 impl Step {
@@ -37,7 +38,7 @@ fn read_second(line: &mut Line<'_>, first: u8) -> Result<u8, Malformed>
 }
 
 /// A put, behind its keyword.
-pub(crate) fn read_put(line: &mut Line<'_>) -> Result<Call, Malformed>
+pub(crate) fn read_put(line: &mut Line<'_>) -> Result<Call<Location>, Malformed>
     ensures { Finds (λ x. x) result put_in line.old line.new }
 {
     let location = read_place(line)?;
@@ -51,7 +52,7 @@ pub(crate) fn read_put(line: &mut Line<'_>) -> Result<Call, Malformed>
 }
 
 /// A run, behind its keyword.
-pub(crate) fn read_run(line: &mut Line<'_>) -> Result<Call, Malformed>
+pub(crate) fn read_run(line: &mut Line<'_>) -> Result<Call<Location>, Malformed>
     ensures { Finds (λ x. x) result run_in line.old line.new }
 {
     let limit = read_number(line)?;
@@ -59,7 +60,7 @@ pub(crate) fn read_run(line: &mut Line<'_>) -> Result<Call, Malformed>
 }
 
 /// A read, behind its keyword.
-pub(crate) fn read_read(line: &mut Line<'_>) -> Result<Call, Malformed>
+pub(crate) fn read_read(line: &mut Line<'_>) -> Result<Call<Location>, Malformed>
     ensures { Finds (λ x. x) result read_in line.old line.new }
 {
     let location = read_place(line)?;

@@ -13,18 +13,9 @@ load_cycles = 0 ∷ (2 ∷ (3 ∷ (0 ∷ (0 ∷ (0 ∷ (0 ∷ (0 ∷ (0 ∷ (2 �
 
 -- of a word on two registers: mul takes 2, and cpse where it skips
 abbrev pub binary_cycles : BinaryOp → Bool → ℕ
-binary_cycles binary.Cpc diverts = 1
-binary_cycles binary.Sbc diverts = 1
-binary_cycles binary.Add diverts = 1
 binary_cycles binary.Cpse diverts = cond diverts 2 1
-binary_cycles binary.Cp diverts = 1
-binary_cycles binary.Sub diverts = 1
-binary_cycles binary.Adc diverts = 1
-binary_cycles binary.And diverts = 1
-binary_cycles binary.Eor diverts = 1
-binary_cycles binary.Or diverts = 1
-binary_cycles binary.Mov diverts = 1
 binary_cycles binary.Mul diverts = 2
+binary_cycles _ diverts = 1
 
 -- The cycles of an instruction, by whether it diverts: a branch diverts where it is taken, cpse where it skips. Of those that
 -- never do, and of those that always do, both numbers are the same.

@@ -4,8 +4,10 @@
 /// that would lie below 0 is `NOWHERE`.
 #[derive(Clone, Copy)]
 pub enum Route {
-    /// Always to one address.
+    /// On to one address.
     To(u32),
+    /// Always diverted to this address.
+    Jump(u32),
     /// On to the first address, or diverted to the second.
     Fork(u32, u32),
     /// Into the function at this address.

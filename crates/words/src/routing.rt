@@ -27,7 +27,7 @@ impl Instruction {
                 op: BinaryOp::Cpse,
                 ..
             } => Route::Fork(next, next + 1),
-            Instruction::Rjmp { k } => Route::To(target(at, k)),
+            Instruction::Rjmp { k } => Route::Jump(target(at, k)),
             Instruction::Rcall { k } => Route::Call(target(at, k)),
             Instruction::Branch { k, .. } => Route::Fork(next, target(at, k)),
             Instruction::Ret => Route::Return,

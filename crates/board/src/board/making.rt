@@ -1,12 +1,12 @@
 //! Making a board, and the calls that load, read and clear it.
 ghost use Rattle.std.specs.Prelude.{◌≡◌, ℕ, ◌<◌, ◌≤◌, length, IfOk, IfErr};
 ghost use Rattle.verdicts.specs.Verdict.{says, outcome, making};
-ghost use Rattle.machine.specs.Calls.{fresh, does, done, clear as clear_call, put as put_call, read as read_call};
+ghost use Rattle.machine.specs.Calls.{fresh, done, clear as clear_call, put as put_call, read as read_call};
 ghost use Rattle.avr.specs.Chip.{instruction_of, avr};
 ghost use Rattle.board.specs.Steps.{Fetched};
 ghost use Rattle.board.specs.Faults.{making_of, making_refusal, unmade_refusal, put_answer, read_answer};
 ghost use Rattle.board.specs.Loans.{SameLoan};
-ghost use Rattle.board.specs.States.{board_of, words_of, after, Lent};
+ghost use Rattle.board.specs.States.{board_of, words_of, Works, Lent};
 
 use crate::board::Board;
 use crate::chip::Chip;
@@ -82,7 +82,7 @@ impl<'w, 'm> Board<'w, 'm> {
 
     /// Sets everything to 0 again, and the phase to loading.
     pub fn clear(&mut self)
-        ensures state { after self.new done ≡ does (avr (words_of self.old)) clear_call (board_of self.old) }
+        ensures state { Works clear_call self.old self.new done }
         ensures same { Lent self.old self.new }
     {
         self.chip.clear();
@@ -94,7 +94,7 @@ impl<'w, 'm> Board<'w, 'm> {
 
     /// Writes a byte to a place while loading.
     pub fn put(&mut self, location: Location, byte: u8) -> Result<(), CallFault>
-        ensures state { after self.new (put_answer result) ≡ does (avr (words_of self.old)) (put_call location byte) (board_of self.old) }
+        ensures state { Works (put_call location byte) self.old self.new (put_answer result) }
         ensures same { Lent self.old self.new }
     {
         match self.phase {
@@ -111,7 +111,7 @@ impl<'w, 'm> Board<'w, 'm> {
 
     /// The byte at a place, once the routine has ended.
     pub fn read(&self, location: Location) -> Result<u8, CallFault>
-        ensures { after self.now (read_answer result) ≡ does (avr (words_of self.now)) (read_call location) (board_of self.now) }
+        ensures { Works (read_call location) self.now self.now (read_answer result) }
     {
         match self.phase {
             Phase::Ended => {

@@ -1,18 +1,16 @@
 //! Runs: steps up to a limit of cycles.
-ghost use Rattle.std.specs.Prelude.{◌≡◌, ◌+◌, true, false, length, nat_lt};
-ghost use Rattle.std.specs.ControlFlow.{MatchControlFlow};
-ghost use Rattle.machine.specs.declared.phase.Ending.TheVariants.{Spent};
-ghost use Rattle.machine.specs.Run.{landed, step as step_of, Runs};
+ghost use Rattle.std.specs.Prelude.{◌≡◌, ◌+◌, length, nat_lt};
+ghost use Rattle.machine.specs.Run.{step as step_of, Runs};
 ghost use Rattle.machine.specs.Laws.{RunCounts, CountsLives};
-ghost use Rattle.machine.specs.Calls.{ends, does, run as run_call};
+ghost use Rattle.machine.specs.Calls.{ends, run as run_call};
 ghost use Rattle.avr.specs.Chip.{instruction_of, avr};
 ghost use Rattle.cells.specs.declared.cell.Leave.TheVariants.{Jump, Call, Return};
 ghost use Rattle.cells.specs.declared.cell.Way.TheVariants.{On, Leave as Leaving};
-ghost use Rattle.board.specs.Cores.{core_of};
 ghost use Rattle.cells.specs.Works.{Fits};
 ghost use Rattle.cells.specs.Cells.{Shows};
-ghost use Rattle.board.specs.Steps.{step_in};
-ghost use Rattle.board.specs.States.{state_of, board_of, held_of, words_of, stepped, after, Lent};
+ghost use Rattle.board.specs.Moves.{step_by_way, landing_of};
+ghost use Rattle.board.specs.Steps.{Paid};
+ghost use Rattle.board.specs.States.{state_of, board_of, words_of, stepped, Works, Lent};
 
 use crate::board::Board;
 use cells::cell::{Cell, Leave, Way};
@@ -31,7 +29,7 @@ impl Board<'_, '_> {
 
     /// The count after so many cycles more, unless they pass the limit.
     fn paid(&self, limit: u32, cycles: u8) -> ControlFlow<Ending, u32>
-        ensures { MatchControlFlow result (λ count. (nat_lt limit (self.now.count + cycles) ≡ false) × (count ≡ self.now.count + cycles)) (λ ending. (nat_lt limit (self.now.count + cycles) ≡ true) × (ending ≡ Spent limit)) }
+        ensures { Paid limit (self.now.count + cycles) result }
     {
         if u64::from(limit) < u64::from(self.count) + u64::from(cycles) {
             return ControlFlow::Break(Ending::Spent(limit));
@@ -48,7 +46,7 @@ impl Board<'_, '_> {
 
     /// Goes to an address if it is in the listing.
     fn land(&mut self, to: u32) -> ControlFlow<Ending>
-        ensures state { stepped result (state_of self.new) ≡ landed (length (words_of self.old)) self.old.at to (held_of self.old) self.old.count (core_of self.old.chip) }
+        ensures state { stepped result (state_of self.new) ≡ landing_of self.old to }
         ensures same { Lent self.old self.new }
         ensures count { self.new.count ≡ self.old.count }
     {
@@ -63,7 +61,7 @@ impl Board<'_, '_> {
     /// A step by a word that does its work and goes on.
     fn go_on(&mut self, limit: u32, work: Work, cycles: u8) -> ControlFlow<Ending>
         requires { Fits work }
-        ensures state { stepped result (state_of self.new) ≡ step_in (length (words_of self.old)) limit (On work) cycles cycles (state_of self.old) }
+        ensures state { stepped result (state_of self.new) ≡ step_by_way self.old limit (On work) cycles }
         ensures same { Lent self.old self.new }
     {
         let count = self.paid(limit, cycles)?;
@@ -75,7 +73,7 @@ impl Board<'_, '_> {
 
     /// A step by a word that only goes to an address.
     fn go_to(&mut self, limit: u32, to: u32, cycles: u8) -> ControlFlow<Ending>
-        ensures state { stepped result (state_of self.new) ≡ step_in (length (words_of self.old)) limit (Leaving (Jump to)) cycles cycles (state_of self.old) }
+        ensures state { stepped result (state_of self.new) ≡ step_by_way self.old limit (Leaving (Jump to)) cycles }
         ensures same { Lent self.old self.new }
     {
         self.count = self.paid(limit, cycles)?;
@@ -91,7 +89,7 @@ impl Board<'_, '_> {
 
     /// A step by a word that calls.
     fn call(&mut self, limit: u32, to: u32, cycles: u8) -> ControlFlow<Ending>
-        ensures state { stepped result (state_of self.new) ≡ step_in (length (words_of self.old)) limit (Leaving (Call to)) cycles cycles (state_of self.old) }
+        ensures state { stepped result (state_of self.new) ≡ step_by_way self.old limit (Leaving (Call to)) cycles }
         ensures same { Lent self.old self.new }
     {
         let count = self.paid(limit, cycles)?;
@@ -105,7 +103,7 @@ impl Board<'_, '_> {
 
     /// A step by a word that returns.
     fn go_back(&mut self, limit: u32, cycles: u8) -> ControlFlow<Ending>
-        ensures state { stepped result (state_of self.new) ≡ step_in (length (words_of self.old)) limit (Leaving Return) cycles cycles (state_of self.old) }
+        ensures state { stepped result (state_of self.new) ≡ step_by_way self.old limit (Leaving Return) cycles }
         ensures same { Lent self.old self.new }
     {
         self.count = self.paid(limit, cycles)?;
@@ -132,7 +130,7 @@ impl Board<'_, '_> {
                     self.go_to(limit, u32::from(self.at) + 1, on)
                 }
             }
-            Way::Leave(Leave::Jump(to)) => self.go_to(limit, to, on),
+            Way::Leave(Leave::Jump(to)) => self.go_to(limit, to, aside),
             Way::Leave(Leave::Call(to)) => self.call(limit, to, aside),
             Way::Leave(Leave::Return) => self.go_back(limit, aside),
         }
@@ -153,7 +151,7 @@ impl Board<'_, '_> {
     /// Goes on up to a limit of cycles, unless the board has ended or is stopped.
     // `run` adds what is true of every machine: that the count is a sum.
     fn carry_on(&mut self, limit: u32) -> Ending
-        ensures state { after self.new (ends result) ≡ does (avr (words_of self.old)) (run_call limit) (board_of self.old) }
+        ensures state { Works (run_call limit) self.old self.new (ends result) }
         ensures same { Lent self.old self.new }
     {
         match self.phase {
@@ -169,7 +167,7 @@ impl Board<'_, '_> {
     /// Runs up to a limit of cycles. An ended or stopped board stays as it is and repeats its ending. The count of a run is the
     /// sum of the cycles of the words that it carries out.
     pub fn run(&mut self, limit: u32) -> Ending
-        ensures state { after self.new (ends result) ≡ does (avr (words_of self.old)) (run_call limit) (board_of self.old) }
+        ensures state { Works (run_call limit) self.old self.new (ends result) }
         ensures same { Lent self.old self.new }
         ensures counts { RunCounts (avr (words_of self.old)) limit (board_of self.old) (board_of self.new) result }
         ensures lives { CountsLives (avr (words_of self.old)) }

@@ -1,7 +1,7 @@
 //! Making cells.
 ghost use Rattle.std.specs.Prelude.{◌≡◌, ℕ, ◌+◌, ◌≤◌, ◌<◌};
 ghost use Rattle.words.specs.Operands.{Operands};
-ghost use Rattle.cells.specs.Cells.{test_in, onward as onward_of, way_by, cell_of, Shows};
+ghost use Rattle.cells.specs.Cells.{test_in, way_by, cell_of, Shows};
 
 use crate::cell::{Cell, Leave, Test, Way};
 use words::instruction::{Flag, Instruction};
@@ -28,22 +28,13 @@ fn test(instruction: Instruction) -> Test
     }
 }
 
-/// The way of an instruction that leads to one address.
-fn onward(to: u32, instruction: Instruction) -> Way
-    ensures { result ≡ onward_of to instruction }
-{
-    match instruction {
-        Instruction::Rjmp { .. } => Way::Leave(Leave::Jump(to)),
-        _ => Way::On(instruction.into()),
-    }
-}
-
 /// The way of an instruction that leads there.
 fn way(route: Route, instruction: Instruction) -> Way
     ensures { result ≡ way_by route instruction }
 {
     match route {
-        Route::To(to) => onward(to, instruction),
+        Route::To(_) => Way::On(instruction.into()),
+        Route::Jump(to) => Way::Leave(Leave::Jump(to)),
         Route::Fork(_, target) => Way::Fork(test(instruction), target),
         Route::Call(to) => Way::Leave(Leave::Call(to)),
         Route::Return => Way::Leave(Leave::Return),

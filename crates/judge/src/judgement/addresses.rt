@@ -18,7 +18,10 @@ use words::route::Route;
 fn is_local(at: u16, instruction: Instruction) -> bool
     ensures { result ≡ local (kind_of at instruction) }
 {
-    matches!(instruction.route(at), Route::To(_) | Route::Fork(_, _))
+    matches!(
+        instruction.route(at),
+        Route::To(_) | Route::Jump(_) | Route::Fork(_, _)
+    )
 }
 
 impl<O: Order> Judgement<'_, O> {
@@ -42,7 +45,7 @@ impl<O: Order> Judgement<'_, O> {
         ensures { result ≡ bounded (length self.now.routine.words.now) (rows_in self.now.routine.rows) at (kind_of at instruction) }
     {
         match instruction.route(at) {
-            Route::To(next) => self.keeps_in(at, next),
+            Route::To(next) | Route::Jump(next) => self.keeps_in(at, next),
             Route::Fork(on, aside) => self.keeps_in(at, on) && self.keeps_in(at, aside),
             Route::Call(target) => self.is_entry(target) && self.keeps_in(at, u32::from(at) + 1),
             Route::Return => true,

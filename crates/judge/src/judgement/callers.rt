@@ -22,7 +22,7 @@ fn callee(at: u16, instruction: Instruction) -> Option<u32>
 {
     match instruction.route(at) {
         Route::Call(target) => Some(target),
-        Route::To(_) | Route::Fork(_, _) | Route::Return => None,
+        Route::To(_) | Route::Jump(_) | Route::Fork(_, _) | Route::Return => None,
     }
 }
 

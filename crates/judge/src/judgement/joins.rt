@@ -42,7 +42,7 @@ impl<O: Order> Judgement<'_, O> {
     {
         match instruction.route(at) {
             Route::Fork(_, _) => self.joined_all(u32::from(at), deciders(instruction).as_slice()),
-            Route::To(_) | Route::Call(_) | Route::Return => 0,
+            Route::To(_) | Route::Jump(_) | Route::Call(_) | Route::Return => 0,
         }
     }
 

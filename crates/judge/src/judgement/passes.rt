@@ -58,6 +58,7 @@ impl<O: Order> Judgement<'_, O> {
         let departure = self.depart(at);
         match instruction.route(at) {
             Route::To(next) => departure.check_edge(next, instruction.cycles(false)),
+            Route::Jump(target) => departure.check_edge(target, instruction.cycles(true)),
             Route::Fork(on, aside) => {
                 departure.check_edge(on, instruction.cycles(false))?;
                 departure.check_edge(aside, instruction.cycles(true))

@@ -1,16 +1,11 @@
-//! A benchmark of the judge on routines of shapes that cost it most.
-//!
-//! Without arguments it judges one routine of each shape and prints the verdicts, always the same lines. With a number it
-//! judges each that many times, at three lengths, and prints how long it took.
-#![tactic(auto)]
-
+//! The judge's part: routines of shapes that cost it most.
 use anyhow::anyhow;
 use judge::judge;
 use levels::chain::Chain;
 use row_layout::{COLUMNS, FUNCTION};
 use std::alloc::{AllocError, Global};
+use std::fmt;
 use std::time::Instant;
-use std::{env, fmt};
 
 /// The word of nop.
 const NOP: u16 = 0x0000;
@@ -31,6 +26,12 @@ enum Shape {
     /// A first half of calls of the second half, which is one function of returns, so that each return has an edge for each call.
     Returns,
 }
+
+/// The shapes, in the order in which they are judged.
+const SHAPES: [Shape; 3] = [Shape::Straight, Shape::Branches, Shape::Returns];
+
+/// The length of the longest routine.
+const LONGEST: u16 = 1024;
 
 // By hand: the kit derives texts for errors only.
 impl fmt::Display for Shape {
@@ -86,21 +87,29 @@ fn judge_often(words: &[u16], rows: &[u16], order: &Chain, times: u32) -> bool {
     (0..times).fold(true, |all, _| judge(words, rows, order).is_ok() && all)
 }
 
-/// Judges a routine of a shape once, and prints the verdict.
-fn show(rt: &HostRuntime, order: &Chain, shape: Shape) -> anyhow::Result<()> {
-    let words = words(rt.alloc(), shape, 1024)?;
-    let rows = rows(rt.alloc(), shape, 1024)?;
-    let verdict = if judge_often(words.as_slice(), rows.as_slice(), order, 1) {
-        "accepted"
-    } else {
-        "refused"
-    };
-    println!(rt; "{shape} 1024 words: {verdict}")?;
+/// The order that every routine is judged with.
+fn order() -> anyhow::Result<Chain> {
+    Chain::new(2).map_err(|_| anyhow!("no chain of 2"))
+}
+
+/// Judges one routine of each shape, and prints the verdicts: always the same lines.
+pub(crate) fn show(rt: &HostRuntime) -> anyhow::Result<()> {
+    let order = order()?;
+    for shape in SHAPES {
+        let words = words(rt.alloc(), shape, LONGEST)?;
+        let rows = rows(rt.alloc(), shape, LONGEST)?;
+        let verdict = if judge_often(words.as_slice(), rows.as_slice(), &order, 1) {
+            "accepted"
+        } else {
+            "refused"
+        };
+        println!(rt; "{shape} {LONGEST} words: {verdict}")?;
+    }
     Ok(())
 }
 
 /// Judges a routine of a shape and a length so many times, and prints how long one judgement took.
-fn measure(
+fn measure_one(
     rt: &HostRuntime,
     order: &Chain,
     shape: Shape,
@@ -116,30 +125,13 @@ fn measure(
     Ok(())
 }
 
-/// How often each routine is to be judged, if the program is called with a number.
-// `bench` has these lines too: a crate for the two would be longer.
-fn times_asked(rt: &HostRuntime) -> anyhow::Result<Option<u32>> {
-    let word = env::args(rt)?.nth(1);
-    Ok(word.map(|word| word.as_str().parse::<u32>()).transpose()?)
-}
-
-/// Judges routines of all shapes.
-fn bench(rt: &HostRuntime) -> anyhow::Result<()> {
-    let order = Chain::new(2).map_err(|_| anyhow!("no chain of 2"))?;
-    let times = times_asked(rt)?;
-    for shape in [Shape::Straight, Shape::Branches, Shape::Returns] {
-        match times {
-            None => show(rt, &order, shape)?,
-            Some(times) => {
-                for len in [256, 512, 1024] {
-                    measure(rt, &order, shape, len, times)?;
-                }
-            }
+/// Judges a routine of each shape and of three lengths so many times, and prints how long one judgement took.
+pub(crate) fn measure(rt: &HostRuntime, times: u32) -> anyhow::Result<()> {
+    let order = order()?;
+    for shape in SHAPES {
+        for len in [LONGEST / 4, LONGEST / 2, LONGEST] {
+            measure_one(rt, &order, shape, len, times)?;
         }
     }
     Ok(())
-}
-
-fn main(rt: HostRuntime) -> anyhow::Result<()> {
-    bench(&rt)
 }
