@@ -26,6 +26,7 @@ impl Job<'_, '_> {
         for step in &self.routine.steps {
             match *step {
                 Step::Judge => self.judge(rt)?,
+                Step::Join { first, second } => self.join(rt, first, second)?,
                 Step::Call(call) => match &mut couple {
                     Ok(couple) => work_call(rt, call, couple)?,
                     Err(fault) => print_boardless(rt, call, *fault)?,
