@@ -78,8 +78,9 @@ fn play(board: &mut Board, rounds: u16) -> Result<(u32, u8), CallFault> {
 /// One short run, and what came of it: always the same line.
 pub(crate) fn show(rt: &HostRuntime) -> anyhow::Result<()> {
     let mut memory = [0u8; 65536];
-    let made = Board::try_new(&ROUTINE, &mut memory);
-    let mut board = made.map_err(|_| anyhow!("no board can be made"))?;
+    let Ok(mut board) = Board::try_new(&ROUTINE, &mut memory) else {
+        return Err(anyhow!("no board can be made"));
+    };
     let (cycles, byte) = play(&mut board, SHORT).map_err(|_| anyhow!("a call was refused"))?;
     let carried_out = instructions(SHORT);
     println!(rt; "{carried_out} instructions, {cycles} cycles, register 18 holds {byte}")?;
@@ -89,8 +90,9 @@ pub(crate) fn show(rt: &HostRuntime) -> anyhow::Result<()> {
 /// So many long runs, and how fast they went.
 pub(crate) fn measure(rt: &HostRuntime, runs: u32) -> anyhow::Result<()> {
     let mut memory = [0u8; 65536];
-    let made = Board::try_new(&ROUTINE, &mut memory);
-    let mut board = made.map_err(|_| anyhow!("no board can be made"))?;
+    let Ok(mut board) = Board::try_new(&ROUTINE, &mut memory) else {
+        return Err(anyhow!("no board can be made"));
+    };
     let start = Instant::now(rt)?;
     let mut cycles = 0u64;
     let mut last = 0;

@@ -6,6 +6,7 @@
 #![tactic(auto)]
 
 mod calls;
+mod joining;
 mod judging;
 mod naming;
 mod showing;
@@ -30,7 +31,7 @@ use words::listing::Listing;
 /// What `--help` prints.
 const HELP: &str = "usage: dulkyamo [FILE]..
 Carries out each routine FILE in turn, or standard input where none is named, and prints what it carried out.
-A FILE holds statements, one a line; `;` begins a comment. Words come first, then order and rows, then judge and the calls:
+A FILE holds statements, one a line; `;` begins a comment. Words come first, then order and rows, then judge, join and the calls:
   words N N ..                   words of the routine
   order chain N | compartments N | table N B B .. | pair ORDER ORDER
                                  the order of secrecy levels
@@ -38,6 +39,7 @@ A FILE holds statements, one a line; `;` begins a comment. Words come first, the
   row finish NAME=VALUE ..       levels at the end
   rows N N ..                    all rows as plain numbers, 39 to a row
   judge                          whether words and rows keep all rules
+  join CODE CODE                 the level that two levels join to, by their codes
   clear, put PLACE BYTE [BYTE], run LIMIT, read PLACE
                                  calls on two boards, whose answers stand side by side; PLACE is rN or an address
 Status 0: each file was carried out. Status 1: some file could not be read or is malformed; standard error says where.";

@@ -60,6 +60,7 @@ impl Job<'_, '_> {
         for step in steps {
             match *step {
                 Step::Judge => self.judge(rt)?,
+                Step::Join { first, second } => self.join(rt, first, second)?,
                 Step::Call(call) => {
                     print_answers(rt, call, &life, number)?;
                     number = number.saturating_add(1);

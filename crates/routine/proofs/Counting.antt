@@ -1,10 +1,8 @@
 -- How many lines a file has. Assumes nothing.
-use Rattle.std.proofs.Common.{ℕ, ◌+◌, ◌≤◌, Bool, true, false, cond, List, [], ◌∷◌, length, ap, arith}
+use Rattle.std.proofs.Common.{ℕ, ◌≤◌, List, [], ◌∷◌, length, ap, arith}
 use Rattle.std.proofs.lemmas.Iterator.{YieldsList}
 use Rattle.std.proofs.lemmas.Iterator.Consumers.{YieldsList-from_shown}
 use Rattle.text.specs.declared.cursors.Lines.{Lines}
-use Rattle.text.specs.Bytes.{newline}
-use Rattle.text.specs.Cuts.{onto}
 use Rattle.text.specs.Lines.{lines_of, line_left, lines_left, GivesLine}
 
 -- there are no more lines than bytes

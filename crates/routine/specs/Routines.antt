@@ -12,7 +12,7 @@ use Rattle.routine.specs.declared.rows.Entry.{Entry}
 use Rattle.routine.specs.declared.rows.RowName.{RowName}
 use Rattle.routine.specs.declared.steps.Step.{Step}
 use Rattle.routine.specs.Rows.{number_of_row, rows_with}
-use Rattle.routine.specs.Steps.{judges}
+use Rattle.routine.specs.Steps.{needs_order}
 use Rattle.routine.specs.Statements as stated
 use Rattle.routine.specs.Statements.{Stated}
 
@@ -80,13 +80,13 @@ sparse_row d name entries None = results.result_map_both (λ a. with_row d a ent
 sparse_row d name entries (Some Plain) = Err MixedRows
 sparse_row d name entries (Some Sparse) = results.result_map_both (λ a. with_row d a entries) (λ m. m) (number_of_row (length d.words) name)
 
--- words come first, then rows and at most one order, then the steps; to judge needs an order
+-- words come first, then rows and at most one order, then the steps; some need an order
 abbrev pub accepted : Draft → Stated → Result Draft Malformed
 accepted d (stated.words ws) = cond (options.is_some d.order || (rows_begun d.form || started d)) (Err Misplaced) (Ok (with_words d ws))
 accepted d (stated.order w) = cond (started d) (Err Misplaced) (cond (options.is_some d.order) (Err SecondOrder) (Ok (with_order d w)))
 accepted d (stated.rows ns) = cond (started d) (Err Misplaced) (plain_rows d ns d.form)
 accepted d (stated.row name entries) = cond (started d) (Err Misplaced) (sparse_row d name entries d.form)
-accepted d (stated.step s) = cond (judges s && not (options.is_some d.order)) (Err NoOrder) (Ok (with_step d s))
+accepted d (stated.step s) = cond (needs_order s && not (options.is_some d.order)) (Err NoOrder) (Ok (with_step d s))
 
 -- a line without a statement changes nothing
 abbrev pub stepped : Draft → Result (Option Stated) Malformed → Result Draft Malformed

@@ -8,10 +8,11 @@ use Rattle.avr.specs.declared.location.Location.{Location}
 use Rattle.routine.specs.Operands as operands
 use Rattle.routine.specs.Operands.{Tokens, and_next, number_in, place_in}
 
--- a step judges, or it is a call on the boards
-abbrev pub judges : Step → Bool
-judges step.Judge = true
-judges (step.Call call) = false
+-- to judge and to join need an order, and a call on the boards does not
+abbrev pub needs_order : Step → Bool
+needs_order step.Judge = true
+needs_order (step.Join first second) = true
+needs_order (step.Call call) = false
 
 -- a second byte, if one is written, and else the first one again
 abbrev pub second_byte : ℕ → Tokens → operands.Read ℕ
@@ -21,6 +22,10 @@ second_byte first (token ∷ tokens) = number_in 0xFF (token ∷ tokens)
 -- a judgement has no operands
 abbrev pub judge_in : Tokens → operands.Read Step
 judge_in tokens = Ok (step.Judge, tokens)
+
+-- two codes of levels, of 16 bits each
+abbrev pub join_in : Tokens → operands.Read Step
+join_in tokens = and_next (number_in 0xFFFF tokens) (λ first rest. and_next (number_in 0xFFFF rest) (λ second last. Ok (step.Join first second, last)))
 
 -- a call on the boards
 abbrev pub call_by : operands.Read (Call Location) → operands.Read Step

@@ -9,7 +9,7 @@ use thiserror::Error;
 #[derive(Clone, Copy, Debug, Error)]
 pub enum Malformed {
     /// It begins with no keyword.
-    #[error("expected a keyword: words, order, rows, row, judge, clear, put, run or read")]
+    #[error("expected a keyword: words, order, rows, row, judge, join, clear, put, run or read")]
     UnknownStatement,
     /// Its statement ends where one operand at least is expected.
     #[error("expected at least one operand after the keyword")]
@@ -36,13 +36,13 @@ pub enum Malformed {
     #[error("expected a register, r0 to r255, or an address of the memory, 0 to 65535")]
     NoPlace,
     /// Its statement stands behind one that it should stand before.
-    #[error("expected words first, then order and rows, and then judge and the calls")]
+    #[error("expected words first, then order and rows, and then judge, join and the calls")]
     Misplaced,
     /// It names an order, and one was named already.
     #[error("expected one order at most")]
     SecondOrder,
-    /// It judges, and no order was named.
-    #[error("expected an order before judge")]
+    /// It judges or joins, and no order was named.
+    #[error("expected an order before judge and join")]
     NoOrder,
     /// No row stands where one is expected.
     #[error("expected the address of one of the words, or finish")]

@@ -15,6 +15,8 @@ pub enum Keyword {
     Row,
     /// Judges the routine.
     Judge,
+    /// Joins two levels.
+    Join,
     /// Clears the boards.
     Clear,
     /// Puts a byte into each board.
@@ -45,6 +47,7 @@ impl Keyword {
             b"rows" => Some(Keyword::Rows),
             b"row" => Some(Keyword::Row),
             b"judge" => Some(Keyword::Judge),
+            b"join" => Some(Keyword::Join),
             b"clear" => Some(Keyword::Clear),
             b"put" => Some(Keyword::Put),
             b"run" => Some(Keyword::Run),

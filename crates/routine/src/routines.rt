@@ -137,11 +137,11 @@ impl Routine {
         Ok(())
     }
 
-    /// Appends a step; one that judges comes behind the order.
+    /// Appends a step; one that asks the order comes behind it.
     fn add_step(&mut self, step: Step) -> Result<(), Fault>
         ensures { Makes result self.old self.new (λ d. accepted d (said_step step)) }
     {
-        if step.is_judge() && self.order.is_none() {
+        if step.needs_order() && self.order.is_none() {
             return Err(Malformed::NoOrder.into());
         }
         self.steps.push(step)?;

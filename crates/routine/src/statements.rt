@@ -9,7 +9,7 @@ use crate::forms::read_order;
 use crate::keywords::Keyword;
 use crate::operands::{end, read_words};
 use crate::rows::{Entry, RowName, read_row};
-use crate::steps::{Step, read_put, read_read, read_run};
+use crate::steps::{Step, read_join, read_put, read_read, read_run};
 use machine::call::Call;
 use orders::written::OrderText;
 use std::alloc::Global;
@@ -56,6 +56,7 @@ fn read_operands(heap: Global, keyword: Keyword, mut line: Line<'_>) -> Result<S
             return Ok(Statement::Row { name, entries });
         }
         Keyword::Judge => Step::Judge,
+        Keyword::Join => read_join(&mut line)?,
         Keyword::Clear => Step::Call(Call::Clear),
         Keyword::Put => Step::Call(read_put(&mut line)?),
         Keyword::Run => Step::Call(read_run(&mut line)?),

@@ -1,6 +1,6 @@
 //! Steps: what is to be done with a routine.
 ghost use Rattle.std.specs.Prelude.{◌≡◌};
-ghost use Rattle.routine.specs.Steps.{judges, second_byte, put_in, run_in, read_in};
+ghost use Rattle.routine.specs.Steps.{needs_order, second_byte, join_in, put_in, run_in, read_in};
 ghost use Rattle.routine.specs.Answers.{Finds};
 
 use crate::faults::Malformed;
@@ -14,17 +14,28 @@ use text::Line;
 pub enum Step {
     /// The routine is judged.
     Judge,
+    /// Two levels are joined, each given by its code.
+    Join { first: u16, second: u16 },
     /// Both boards of a couple are given a call.
     Call(Call<Location>),
 }
 
 impl Step {
-    /// Whether it judges the routine.
-    pub(crate) fn is_judge(self) -> bool
-        ensures { result ≡ judges self }
+    /// Whether it asks the order, so that one must be named above it.
+    pub(crate) fn needs_order(self) -> bool
+        ensures { result ≡ needs_order self }
     {
-        matches!(self, Step::Judge)
+        matches!(self, Step::Judge | Step::Join { .. })
     }
+}
+
+/// A join, behind its keyword.
+pub(crate) fn read_join(line: &mut Line<'_>) -> Result<Step, Malformed>
+    ensures { Finds (λ x. x) result join_in line.old line.new }
+{
+    let first = read_number(line)?;
+    let second = read_number(line)?;
+    Ok(Step::Join { first, second })
 }
 
 /// The second byte of a put: the first again, where none is written.
