@@ -3,7 +3,7 @@ ghost use Rattle.std.specs.Prelude.{◌≡◌, ◌+◌, ◌*◌};
 
 use anyhow::anyhow;
 use avr::location::Location;
-use board::board::Board;
+use board::Board;
 use board::fault::CallFault;
 use machine::phase::Ending;
 use std::time::Instant;

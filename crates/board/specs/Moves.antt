@@ -3,7 +3,7 @@ use Rattle.std.specs.Prelude.{ℕ, length}
 use Rattle.machine.specs.Run.{Step, landed}
 use Rattle.avr.specs.Core.{Core}
 use Rattle.cells.specs.declared.cell.Way.{Way}
-use Rattle.board.specs.declared.board.Board.{Board}
+use Rattle.board.specs.declared.simulation.Board.{Board}
 use Rattle.board.specs.Cores.{core_of}
 use Rattle.board.specs.Steps.{step_in}
 use Rattle.board.specs.States.{state_of, held_of, words_of}

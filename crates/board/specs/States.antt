@@ -8,7 +8,7 @@ use Rattle.machine.specs.Calls as calls
 use Rattle.avr.specs.declared.location.Location.{Location}
 use Rattle.avr.specs.Core.{Core}
 use Rattle.avr.specs.Chip.{avr}
-use Rattle.board.specs.declared.board.Board.{Board}
+use Rattle.board.specs.declared.simulation.Board.{Board}
 use Rattle.board.specs.Cores.{core_of}
 
 -- the returns that a board holds, newest first

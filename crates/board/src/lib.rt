@@ -5,7 +5,9 @@
 //! word worked out once, into a cell, whose work the chip performs.
 #![tactic(auto)]
 
-pub mod board;
 mod chip;
 pub mod fault;
 pub mod memory;
+mod simulation;
+
+pub use simulation::Board;

@@ -7,7 +7,7 @@ use Rattle.machine.specs.declared.call.Call.{Call}
 use Rattle.avr.proofs.Sounds.{sound}
 use Rattle.secrecy.proofs.Hidings.{hiding}
 use Rattle.judge.proofs.Placed.{placed}
-use Rattle.board.specs.declared.board.Board.{Board}
+use Rattle.board.specs.declared.simulation.Board.{Board}
 use Rattle.board.specs.States.{board_of, words_of}
 use Rattle.couples.specs.declared.answers.Answers.{Answers}
 use Rattle.couples.specs.Lives.{both_calls, Works, Lived, Noninterference}

@@ -4,7 +4,7 @@ use Rattle.avr.specs.declared.location.Location.{Location}
 use Rattle.avr.specs.Core.{Core}
 use Rattle.secrecy.specs.Couples.{Both, clears, runs, reads, puts, left, right}
 use Rattle.verdicts.specs.Verdict.{Refusal}
-use Rattle.board.specs.declared.board.Board.{Board}
+use Rattle.board.specs.declared.simulation.Board.{Board}
 use Rattle.board.specs.Faults.{making_refusal}
 use Rattle.board.specs.States.{board_of, Works}
 use Rattle.couples.specs.declared.answers.Answers.{Answers}

@@ -15,7 +15,7 @@ use Rattle.couples.specs.declared.answers.Answers.{Answers}
 use Rattle.couples.specs.declared.fault.LifeFault.{LifeFault}
 use Rattle.couples.specs.declared.fault.LifeFault.TheVariants.{Room, Making}
 use Rattle.couples.specs.Answers.{answer_of}
-use Rattle.board.specs.declared.board.Board.{Board}
+use Rattle.board.specs.declared.simulation.Board.{Board}
 use Rattle.board.specs.States.{board_of, words_of}
 use Rattle.couples.specs.declared.working.Couple.{Couple}
 use Rattle.couples.specs.Calls.{both_of}

@@ -11,7 +11,7 @@ ghost use Rattle.couples.specs.Calls.{Answered, sides, unmade_refusal};
 use crate::answers::{Answer, Answers};
 use crate::fault::Unmade;
 use avr::location::Location;
-use board::board::Board;
+use board::Board;
 use board::fault::MakingFault;
 use board::memory::Memory;
 pub use machine::call::Call;

@@ -12,7 +12,7 @@ ghost use Rattle.board.specs.Moves.{step_by_way, landing_of};
 ghost use Rattle.board.specs.Steps.{Paid};
 ghost use Rattle.board.specs.States.{state_of, board_of, words_of, stepped, Works, Lent};
 
-use crate::board::Board;
+use crate::simulation::Board;
 use cells::cell::{Cell, Leave, Way};
 use cells::work::Work;
 use machine::phase::{Ending, Phase, Stop};

@@ -4,7 +4,7 @@ use Rattle.machine.specs.Run.{State, Runs}
 use Rattle.avr.specs.Core.{Core}
 use Rattle.avr.specs.Chip.{avr}
 use Rattle.board.specs.States.{state_of, words_of, Lent}
-use Rattle.board.proofs.board.Board.advance.Given as goal
+use Rattle.board.proofs.simulation.Board.advance.Given as goal
 
 -- a run from here to its end makes one from the start
 abbrev pub invariant-loop-ending : goal.invariant-loop-ending

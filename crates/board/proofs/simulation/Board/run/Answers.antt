@@ -3,7 +3,7 @@ use Rattle.avr.specs.Chip.{instruction_of, avr}
 use Rattle.avr.proofs.Sounds.{positive}
 use Rattle.board.specs.States.{board_of, words_of}
 use Rattle.board.proofs.Steps.{run_counts}
-use Rattle.board.proofs.board.Board.run.Goals as goal
+use Rattle.board.proofs.simulation.Board.run.Goals as goal
 
 pub returns-clause-counts : goal.returns-clause-counts
 returns-clause-counts c =

@@ -5,7 +5,7 @@ use Rattle.cells.specs.declared.cell.Cell.{Cell}
 use Rattle.cells.specs.Cells.{Shows}
 use Rattle.board.specs.States.{words_of}
 use Rattle.cells.proofs.Shown.{shows}
-use Rattle.board.proofs.board.Board.fetch.Goals as goal
+use Rattle.board.proofs.simulation.Board.fetch.Goals as goal
 
 pub returns : goal.returns
 returns c =

@@ -1,7 +1,7 @@
 use Rattle.std.proofs.Common.{arith, rules}
 use Rattle.board.specs.States.{state_of, words_of}
 use Rattle.board.proofs.Steps.{run_last, run_more, step_grows}
-use Rattle.board.proofs.board.Board.advance.Goals as goal
+use Rattle.board.proofs.simulation.Board.advance.Goals as goal
 
 pub returns-in-Break-clause-state : goal.returns-in-Break-clause-state
 returns-in-Break-clause-state c =

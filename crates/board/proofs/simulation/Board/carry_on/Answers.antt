@@ -1,6 +1,6 @@
 use Rattle.board.specs.States.{state_of, words_of}
 use Rattle.board.proofs.Steps.{ran}
-use Rattle.board.proofs.board.Board.carry_on.Goals as goal
+use Rattle.board.proofs.simulation.Board.carry_on.Goals as goal
 
 pub returns-clause-state : goal.returns-clause-state
 returns-clause-state c =

@@ -4,7 +4,7 @@ use Rattle.cells.specs.Cells.{cell_of}
 use Rattle.cells.specs.declared.cell.Cell.{Cell}
 use Rattle.board.specs.Steps.{blank_cell}
 use Rattle.avr.proofs.Made.{made}
-use Rattle.board.proofs.board.making.cells_of.Goals as goal
+use Rattle.board.proofs.simulation.making.cells_of.Goals as goal
 
 pub returns : goal.returns
 returns c = λ k h. made _ (λ (i : ℕ) (y : Cell). y ≡ cell_of i (instruction_of c.args.listing.now.words.now i)) _ (λ i y q k. (search rules, search rules)) _ 1024 c.from_fn.ensures.items k blank_cell (omega (arith, h))

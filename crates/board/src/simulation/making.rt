@@ -8,11 +8,11 @@ ghost use Rattle.board.specs.Faults.{making_of, making_refusal, unmade_refusal, 
 ghost use Rattle.board.specs.Loans.{SameLoan};
 ghost use Rattle.board.specs.States.{board_of, words_of, Works, Lent};
 
-use crate::board::Board;
 use crate::chip::Chip;
 use crate::chip::access::is_valid;
 use crate::fault::{CallFault, MakingFault, Unmade};
 use crate::memory::Memory;
+use crate::simulation::Board;
 use arrayvec::ArrayVec;
 use avr::location::Location;
 use cells::cell::Cell;
