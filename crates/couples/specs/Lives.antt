@@ -71,8 +71,8 @@ pub record Lived (ws : List ℕ) (calls : List (Call Location)) (given : List An
 
 -- Noninterference, of answers that two boards gave. Whatever the order of levels, if only it keeps the laws, and whatever the rows,
 -- if only the judgement accepts them with the words: to an observer of any level that is held, the answers of the two boards are the
--- same, but for bytes read from places hidden in the finish row, where the calls differ only in bytes put into places hidden in the
--- first row.
+-- same where the calls differ only in secrets. A secret is a byte put where the first row hides the place. The one exception is a
+-- byte that is read where the finish row hides the place.
 abbrev pub Noninterference : List ℕ → List (Call Location) → List Answers → Type 0
 Noninterference ws calls given =
     (m : Meaning) → Laws m → (rows : List ℕ) → judgement_of m ws rows ≡ fine → (observer : ℕ) → m.held observer ≡ true →
