@@ -28,9 +28,9 @@ fn find_fault<O: Order>(words: &[u16], rows: &[u16], order: &O) -> Result<(), Ju
 /// Judges a routine: its words, the numbers of its rows, and the order that their levels are of. Anything may be passed.
 ///
 /// The answer is the first rule that is broken, or acceptance: where words and rows keep all rules, and only there. A rule is
-/// named where it is broken and everything that comes before it is right. What is
-/// accepted hides every secret: to an observer of any level, two boards that differ only in what the observer may not see
-/// answer all calls alike, cycle counts among them, and all ways through a region take the cycles that its rows say.
+/// named where it is broken and everything that comes before it is right. What is accepted hides every secret: to an observer of
+/// any level, two boards that differ only in what the observer may not see answer all calls alike, cycle counts among them, and
+/// all ways through a region take the cycles that its rows say.
 // Words, rows and order apart, as callers have them; `Judgement` puts them together.
 pub fn judge<O: Order>(words: &[u16], rows: &[u16], order: &O) -> Result<(), JudgeFault>
     ensures answer { says judge_refusal result ≡ judgement_of (O.Order.meaning order.now) words.now rows.now }
