@@ -29,4 +29,5 @@ mod edges;
 mod joins;
 mod making;
 mod passes;
+mod sameness;
 mod shapes;
