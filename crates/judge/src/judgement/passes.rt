@@ -1,5 +1,5 @@
 //! The passes over a routine: all rows, all addresses, all edges.
-ghost use Rattle.std.specs.Prelude.{◌≡◌};
+ghost use Rattle.std.specs.Prelude.{◌≡◌, ◌<◌};
 ghost use Rattle.verdicts.specs.Verdict.{says, fine};
 ghost use Rattle.avr.specs.Chip.{instruction_of};
 ghost use Rattle.judge.specs.Faults.{row_refusal, flow_refusal};
@@ -56,10 +56,11 @@ impl<O: Order> Judgement<'_, O> {
 
     /// The edges of the word at an address, in their order.
     fn check_edges_from(&self, at: u16) -> Result<(), FlowFault>
-        requires { rows_verdict (O.Order.meaning self.now.order.now) self.now.routine ≡ fine }
+        requires few { at < 1024 }
+        requires right { rows_verdict (O.Order.meaning self.now.order.now) self.now.routine ≡ fine }
         ensures { says flow_refusal result ≡ word_verdict (O.Order.meaning self.now.order.now) self.now.routine at }
     {
-        let instruction = self.routine.instruction(at);
+        let instruction = self.instruction(at);
         let departure = self.depart(at, instruction);
         match instruction.route(at) {
             Route::To(next) => departure.check_edge(next, instruction.cycles(false)),
