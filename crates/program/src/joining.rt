@@ -1,6 +1,6 @@
 //! The join of two levels, printed.
 ghost use Rattle.std.specs.Prelude.{◌≡◌};
-ghost use Rattle.dulkyamo.specs.Joins.{join_of};
+ghost use Rattle.program.specs.Joins.{join_of};
 
 use crate::working::Job;
 use levels::order::Order;

@@ -1,4 +1,10 @@
 //! What the program prints of orders.
+ghost use Rattle.std.specs.Prelude.{◌≡◌, IfOk};
+ghost use Rattle.std.specs.Option.{option_map};
+ghost use Rattle.orders.specs.Written.{written_of};
+ghost use Rattle.orders.specs.Making.{made_meaning};
+ghost use Rattle.program.specs.Standings.{named_meaning};
+
 use levels::fault::OrderFault;
 use orders::making::Made;
 use orders::written::{OrderText, SimpleText};
@@ -53,23 +59,34 @@ impl fmt::Display for Unmade<'_> {
     }
 }
 
-/// Prints what an order holds, or why it is refused, and answers the order if it is made.
-pub(crate) fn print_order(rt: &HostRuntime, text: &OrderText) -> io::Result<Option<Made>> {
-    print_name(rt, text)?;
-    if let Some(unmade) = first_unmade(text) {
-        println!(rt; "{unmade}")?;
+/// Prints what an order holds, or why it is refused, and answers the order if one is named and made.
+pub(crate) fn print_order(rt: &HostRuntime, text: Option<&OrderText>) -> io::Result<Option<Made>>
+    ensures { IfOk result (λ made. option_map made_meaning made ≡ named_meaning (option_map (λ w. written_of w.now) text.entry)) }
+{
+    let Some(text) = text else {
         return Ok(None);
-    }
+    };
+    print_name(rt, text)?;
     match text.make() {
         Ok(made) => {
             print_held(rt, &made)?;
             Ok(Some(made))
         }
-        // Not met, since no part is refused; but that is no fact of this function.
         Err(fault) => {
-            let number = fault.number();
-            println!(rt; "refused {number}")?;
+            print_fault(rt, text, fault)?;
             Ok(None)
+        }
+    }
+}
+
+/// Prints why an order is refused: what is wrong with its first part that cannot be made.
+fn print_fault(rt: &HostRuntime, text: &OrderText, fault: OrderFault) -> io::Result<()> {
+    match first_unmade(text, fault) {
+        Some(unmade) => println!(rt; "{unmade}"),
+        // Not met, since a part is refused; but that is no fact of this function.
+        None => {
+            let number = fault.number();
+            println!(rt; "refused {number}")
         }
     }
 }
@@ -89,10 +106,10 @@ fn print_name(rt: &HostRuntime, text: &OrderText) -> io::Result<()> {
     }
 }
 
-/// The first part of an order that is refused, and why.
-fn first_unmade(text: &OrderText) -> Option<Unmade<'_>> {
+/// The first part of an order that is refused, and why, where the order is refused for `fault`.
+fn first_unmade(text: &OrderText, fault: OrderFault) -> Option<Unmade<'_>> {
     match text {
-        OrderText::Simple(form) => why_unmade(form),
+        OrderText::Simple(text) => Some(Unmade { text, fault }),
         OrderText::Pair(first, second) => why_unmade(first).or_else(|| why_unmade(second)),
     }
 }

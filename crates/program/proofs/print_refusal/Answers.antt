@@ -1,8 +1,8 @@
 use Rattle.std.proofs.Common.{ap, ◌∙◌, arith}
 use Rattle.verdicts.specs.Verdict.{refused}
 use Rattle.words.specs.Legal.{word_refusal}
-use Rattle.dulkyamo.proofs.Within.{undecodable_within}
-use Rattle.dulkyamo.proofs.print_refusal.Goals as goal
+use Rattle.program.proofs.Within.{undecodable_within}
+use Rattle.program.proofs.print_refusal.Goals as goal
 
 pub bounds-words-from : goal.bounds-words-from
 bounds-words-from c =

@@ -1,5 +1,6 @@
 //! The steps of a routine, in order.
 use crate::calls::{Written, work_call};
+use crate::judging::Judged;
 use board::fault::MakingFault;
 use couples::working::{Call, Couple};
 use orders::making::Made;
@@ -17,23 +18,43 @@ pub(crate) struct Job<'r, 'o> {
 }
 
 impl Job<'_, '_> {
-    /// Works the steps, the calls on a couple of boards. To judge needs no boards.
-    pub(crate) fn work(self, rt: &HostRuntime) -> io::Result<()> {
+    /// Works the steps: prints the verdict and joins, and gives the calls to a couple of boards if there are any.
+    pub(crate) fn work(self, rt: &HostRuntime, judged: Judged) -> io::Result<()> {
+        let mut steps = self.routine.steps.iter();
+        if steps.any(|step| matches!(step, Step::Call(_))) {
+            return self.work_boards(rt, judged);
+        }
+        for step in &self.routine.steps {
+            self.ask(rt, judged, *step)?;
+        }
+        Ok(())
+    }
+
+    /// Works the steps, the calls on a couple of boards.
+    fn work_boards(self, rt: &HostRuntime, judged: Judged) -> io::Result<()> {
         let words = self.routine.words.as_slice();
         let mut left = [0u8; MEMORY];
         let mut right = [0u8; MEMORY];
         let mut couple = Couple::try_new(words, &mut left, &mut right);
         for step in &self.routine.steps {
             match *step {
-                Step::Judge => self.judge(rt)?,
-                Step::Join { first, second } => self.join(rt, first, second)?,
                 Step::Call(call) => match &mut couple {
                     Ok(couple) => work_call(rt, call, couple)?,
                     Err(fault) => print_boardless(rt, call, *fault)?,
                 },
+                asked => self.ask(rt, judged, asked)?,
             }
         }
         Ok(())
+    }
+
+    /// Works a step that needs no boards.
+    fn ask(self, rt: &HostRuntime, judged: Judged, step: Step) -> io::Result<()> {
+        match step {
+            Step::Judge => self.print_verdict(rt, judged),
+            Step::Join { first, second } => self.join(rt, first, second),
+            Step::Call(_) => Ok(()),
+        }
     }
 }
 
