@@ -5,7 +5,9 @@
 #![tactic(auto)]
 
 mod facts;
+mod hints;
 mod refusal;
 mod texts;
 
+pub use hints::Hint;
 pub use refusal::Refusal;
