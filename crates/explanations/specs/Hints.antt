@@ -39,7 +39,7 @@ abbrev pub changed : Rows → Hint → Rows
 changed R h =
     record R {
       join_address = λ row. cond (row == h.row) h.join (R.join_address row);
-      remaining = λ row. cond (row == h.row) h.remaining (R.remaining row)
+      remaining = λ row. cond (row == h.row) h.remaining (R.remaining row);
     }
 
 -- the cycles of the way that a refusal of its time means

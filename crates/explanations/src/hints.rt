@@ -24,8 +24,9 @@ impl Refusal<'_> {
         ensures mends { Mends self.now.routine self.now.fault result }
     {
         match self.fault {
-            JudgeFault::Flow(FlowFault::Time { at, next }) if u32::from(at) != next =>
-                Some(self.hint_between(at, next)),
+            JudgeFault::Flow(FlowFault::Time { at, next }) if u32::from(at) != next => Some(
+                self.hint_between(at, next),
+            ),
             _ => None,
         }
     }

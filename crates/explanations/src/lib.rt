@@ -4,6 +4,7 @@
 //! it works out besides the fault, as the cycles that a row would have to say, is pinned by the definitions of the rules.
 #![tactic(auto)]
 
+mod choices;
 mod facts;
 mod hints;
 mod refusal;
@@ -11,3 +12,4 @@ mod texts;
 
 pub use hints::Hint;
 pub use refusal::Refusal;
+pub use texts::RowLabel;

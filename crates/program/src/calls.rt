@@ -76,11 +76,13 @@ impl fmt::Display for Refusal {
     }
 }
 
-/// What a call came to: that it is done, a refusal where both boards refuse alike, or both answers.
+/// What a call came to: that it is done, a refusal where both boards refuse alike, or both answers; and of bytes that were read
+/// whether the finish row hides them from an observer of level 0, if it says so.
 #[derive(Clone, Copy)]
 struct Outcome {
     call: Call,
     answers: Answers,
+    hidden: Option<bool>,
 }
 
 impl fmt::Display for Outcome {
@@ -93,7 +95,14 @@ impl fmt::Display for Outcome {
                 let refusal = Refusal { call, fault };
                 write!(f, "{refusal}")
             }
-            _ => write!(f, "{answers}"),
+            _ => {
+                write!(f, "{answers}")?;
+                match self.hidden {
+                    Some(true) => f.write_str(", hidden from level 0"),
+                    Some(false) => f.write_str(", seen by level 0"),
+                    None => Ok(()),
+                }
+            }
         }
     }
 }
@@ -103,9 +112,14 @@ pub(crate) fn work_call(
     rt: &HostRuntime,
     call: Call,
     couple: &mut Couple<'_, '_, '_>,
+    hidden: Option<bool>,
 ) -> io::Result<()> {
     let answers = couple.work(call);
     let written = Written(call);
-    let outcome = Outcome { call, answers };
+    let outcome = Outcome {
+        call,
+        answers,
+        hidden,
+    };
     println!(rt; "{written}: {outcome}")
 }

@@ -73,11 +73,41 @@ impl Job<'_, '_> {
                 let rows = self.routine.rows.as_slice();
                 let routine = RoutineView { words, rows };
                 let refusal = Refusal { fault, routine };
-                println!(rt; "judge: {refusal}")
+                println!(rt; "judge: {refusal}")?;
+                self.print_lines(rt, &refusal)
             }
             Judged::Unasked | Judged::Orderless => println!(rt;
                 "judge: no verdict, since the order is refused"
             ),
+        }
+    }
+}
+
+impl Job<'_, '_> {
+    /// Prints on which lines of the file the word and the rows stand that a refusal is about.
+    fn print_lines(self, rt: &HostRuntime, refusal: &Refusal<'_>) -> io::Result<()> {
+        if let Some(at) = refusal.word()
+            && let Some(line) = self.routine.word_line(at)
+        {
+            println!(rt; "  line {line} has the word at {at}")?;
+        }
+        if let Some(row) = refusal.row() {
+            self.print_row_line(rt, refusal, row)?;
+        }
+        if let Some(row) = refusal.next_row()
+            && refusal.row() != Some(row)
+        {
+            self.print_row_line(rt, refusal, row)?;
+        }
+        Ok(())
+    }
+
+    /// Prints on which line of the file a row stands.
+    fn print_row_line(self, rt: &HostRuntime, refusal: &Refusal<'_>, row: u32) -> io::Result<()> {
+        let label = refusal.label(row);
+        match self.routine.row_line(row) {
+            Some(line) => println!(rt; "  line {line} has {label}"),
+            None => println!(rt; "  no line has {label}, so all of it is 0"),
         }
     }
 }

@@ -6,6 +6,7 @@
 #![tactic(auto)]
 
 mod calls;
+mod hiding;
 mod joining;
 mod judging;
 mod naming;

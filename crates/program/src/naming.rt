@@ -53,7 +53,10 @@ impl fmt::Display for Unmade<'_> {
                 )
             }
             (OrderFault::Law, _) => f.write_str(
-                "the join bytes are no order: each must be a level, 0 with a must give a, a with a must give a, and neither turning nor regrouping may matter",
+                "the join bytes are no order
+  each byte must be a level
+  0 joined with a must give a, and so must a joined with a
+  neither turning nor regrouping may matter",
             ),
         }
     }

@@ -39,13 +39,21 @@ impl Job<'_, '_> {
         for step in &self.routine.steps {
             match *step {
                 Step::Call(call) => match &mut couple {
-                    Ok(couple) => work_call(rt, call, couple)?,
+                    Ok(couple) => work_call(rt, call, couple, self.hidden(call))?,
                     Err(fault) => print_boardless(rt, call, *fault)?,
                 },
                 asked => self.ask(rt, judged, asked)?,
             }
         }
         Ok(())
+    }
+
+    /// Whether the finish row hides what a call reads from an observer of level 0; none of other calls.
+    fn hidden(self, call: Call) -> Option<bool> {
+        match call {
+            Call::Read { location } => self.hides(location),
+            Call::Clear | Call::Put { .. } | Call::Run { .. } => None,
+        }
     }
 
     /// Works a step that needs no boards.
