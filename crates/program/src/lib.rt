@@ -28,11 +28,12 @@ use crate::showing::{Cycles, Next};
 use crate::standing::Standing;
 use crate::tasks::{finish, load};
 use crate::working::Job;
-use notation::Assembly;
+use notation::{Assembly, Foreign};
 use routine::Routine;
 use std::process::ExitCode;
 use std::{env, io};
 use words::fault::WordFault;
+use words::instruction::Instruction;
 use words::listing::Listing;
 
 /// What `--help` prints.
@@ -151,9 +152,23 @@ fn print_refusal(rt: &HostRuntime, fault: WordFault, words: &[u16]) -> io::Resul
             let word = words[usize::from(at)];
             println!(rt;
                 "refused {number} at {at}: the word 0x{word:04X} is no instruction that a routine may hold"
-            )
+            )?;
+            print_undecodable(rt, words)
         }
     }
+}
+
+/// Prints each word that does not decode, with its name where it is one of the chip's.
+fn print_undecodable(rt: &HostRuntime, words: &[u16]) -> io::Result<()> {
+    for (at, word) in words.iter().enumerate() {
+        if Instruction::decode(*word).is_none() {
+            match Foreign::from_word(*word) {
+                Some(foreign) => println!(rt; "  {at} 0x{word:04X} {foreign}")?,
+                None => println!(rt; "  {at} 0x{word:04X}")?,
+            }
+        }
+    }
+    Ok(())
 }
 
 /// Prints how many words a listing has, and a line for each.
