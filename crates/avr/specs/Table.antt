@@ -129,6 +129,15 @@ rows_of Ret = []
 rows_of Clc = row carry_place [] ∷ []
 rows_of Nop = []
 
+-- the places that some rows write
+abbrev pub places_of : List Row → List ℕ
+places_of [] = []
+places_of (r ∷ rs) = r.place ∷ places_of rs
+
+-- the places that an instruction writes
+abbrev pub written_of : Instruction → List ℕ
+written_of i = places_of (rows_of i)
+
 -- the sources of a place in some rows, if one of them writes it
 abbrev pub lookup : ℕ → List Row → Option (List ℕ)
 lookup p [] = None

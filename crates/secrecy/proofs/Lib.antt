@@ -1,6 +1,7 @@
 pub mod Columns
 pub mod Says
 pub mod Meanings
+pub mod Held
 pub mod Refused
 pub mod Setting
 pub mod Statics

@@ -15,7 +15,8 @@ pub fn rules_stand()
     ensures { RulesStand }
 {}
 
-/// Where the checks of rows refuse, the rule that the refusal names is broken, and everything that comes before it is right.
+/// The checks of rows refuse where the rule that the refusal names is broken and everything that comes before it is right, and only
+/// there.
 #[tactic(auto, using(crate::proofs::Refused::refused_by))]
 pub fn refusals_stand()
     ensures { RefusalsStand }
