@@ -60,8 +60,8 @@ module _ {B V W : Type 0} (m : Meaning) (laws : Laws m) (M : Machine B V W) (R S
           finish = λ e. let g = s.finish e in (region_zero row g.0, grind arith, grind arith, grind arith);
         }
 
-    timed : (a b c : ℕ) → a < M.size → Leads m M R a b → Edge m M S a b c → 0 < R.remaining a → Leaves R a b c ⊎ Stays m M R a b c
-    timed a b c l way edge h =
+    timed : (a b c : ℕ) → a < M.size → b < M.size → Leads m M R a b → Edge m M S a b c → 0 < R.remaining a → Leaves R a b c ⊎ Stays m M R a b c
+    timed a b c l lb way edge h =
         let ja = same.join_address a in
         let jb = same.join_address b in
         let ra = same.remaining a in
@@ -72,7 +72,7 @@ module _ {B V W : Type 0} (m : Meaning) (laws : Laws m) (M : Machine B V W) (R S
           same = let e = g.same in grind arith;
           inside = grind arith;
           less = let e = g.less in grind arith;
-          region = (settled a b l way).region h (grind arith);
+          region = (settled a b l (omega arith) way).region h (grind arith);
         }))
         (edge.timed (grind arith))
 
@@ -80,8 +80,8 @@ module _ {B V W : Type 0} (m : Meaning) (laws : Laws m) (M : Machine B V W) (R S
     edge a b c l way e = record {
       listed = e.listed;
       function = let x = same.function a in let y = same.function b in let z = e.function in grind arith;
-      timed = timed a b c l way e;
-      levels = (settled a b l way).levels;
+      timed = timed a b c l e.listed way e;
+      levels = (settled a b l (let z = e.listed in omega arith) way).levels;
     }
 
     word_by : (a : ℕ) (k : Kind) → a < M.size → M.kind a ≡ k → WordRule m M S a k → WordRule m M R a k
@@ -97,12 +97,12 @@ module _ {B V W : Type 0} (m : Meaning) (laws : Laws m) (M : Machine B V W) (R S
           named = let e = rule.named in grind arith;
           back = rule.back;
           function = let e = rule.function in grind arith;
-          levels = (settled a t l (rw i refl)).levels;
+          levels = (settled a t l (let z = rule.listed in omega arith) (rw i refl)).levels;
         }
     word_by a (rets c) l i rule = record {
       outside = let e = rule.outside in let r = same.remaining a in grind arith;
-      levels = λ b d lb kb. (settled a (b + 1) l (rw i (inl (b, lb, (d, kb), refl)))).levels;
-      finish = λ z. (settled a M.size l (rw i (inr (z, refl)))).levels;
+      levels = λ b d lb kb. (settled a (b + 1) l (omega arith) (rw i (inl (b, lb, (d, kb), refl)))).levels;
+      finish = λ z. (settled a M.size l (omega arith) (rw i (inr (z, refl)))).levels;
     }
 
     pub settles : Accepted m M R

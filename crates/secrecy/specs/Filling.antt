@@ -1,6 +1,6 @@
 -- Levels filled in: of all accepted rows with given join addresses, remaining cycles and functions, and with a first row at or above
 -- a given one, those with the least levels. Assumes nothing.
-use Rattle.std.specs.Prelude.{◌≡◌, ℕ, ◌+◌, ◌<◌, true, ◌⊎◌, List}
+use Rattle.std.specs.Prelude.{◌≡◌, ℕ, ◌+◌, ◌<◌, ◌≤◌, true, ◌⊎◌, List}
 use Rattle.levels.specs.Order.{Meaning, Laws}
 use Rattle.machine.specs.Machine.{Machine, Kind, plain, forks, calls, rets}
 use Rattle.secrecy.specs.Rows.{Rows, rows_of, IsPlace}
@@ -52,9 +52,9 @@ module _ {B V W : Type 0} (m : Meaning) (M : Machine B V W) (R : Rows) where
     pub levels : (p : ℕ) → IsPlace p → m.flows (level_after m M R a p) (R.level b p) ≡ true
     pub region : 0 < R.remaining a → 0 < R.remaining b → m.flows (pc_level m M R a) (R.region b) ≡ true
 
-  -- nor along any other
+  -- nor along any other to a row that there is
   abbrev pub Settled : Type 0
-  Settled = (a b : ℕ) → a < M.size → Leads a b → SettledOn a b
+  Settled = (a b : ℕ) → a < M.size → b ≤ M.size → Leads a b → SettledOn a b
 
   -- every level is held
   pub record AllHeld : Type 0 where
