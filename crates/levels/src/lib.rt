@@ -8,4 +8,5 @@ pub mod compartments;
 pub mod fault;
 pub mod order;
 pub mod pair;
+pub mod ranked;
 pub mod table;
