@@ -1,7 +1,7 @@
 //! Levels raised in one row.
 ghost use Rattle.std.specs.Prelude.{◌≡◌, ℕ, ◌+◌, ◌*◌, ◌<◌, ◌≤◌, true, false, not, ◌==◌, length, slice_index, slice_set};
 ghost use Rattle.secrecy.specs.Rows.{rows_of, cell, columns, place_columns as columns_of_places, region_column};
-ghost use Rattle.filling.specs.Between.{Between, Due, Raised};
+ghost use Rattle.filling.specs.Between.{IsLevel, Between, Due, DuePlaces, DueRegion, PlacesFlow, RegionFlows, Raised};
 
 use crate::settling::Job;
 use levels::ranked::Ranked;
@@ -19,6 +19,13 @@ fn raise<O: Ranked>(order: &O, rows: &mut [u16], index: usize, level: u16) -> bo
     joined != old
 }
 
+/// Where the number in one column of one row stands.
+fn index_of(row: u16, column: u16) -> usize
+    ensures { result ≡ row * columns + column }
+{
+    usize::from(row) * COLUMNS + usize::from(column)
+}
+
 impl<O: Ranked> Job<'_, O> {
     /// Raises the level in one column of a row to its join with a level that is due there, and answers whether that changed it.
     fn raise_cell(&self, rows: &mut [u16], row: u16, column: u16, level: u16) -> bool
@@ -28,9 +35,49 @@ impl<O: Ranked> Job<'_, O> {
         requires due { Due (O.Order.meaning self.now.order.now) self.now.words.now self.now.given.now row column level }
         ensures between { Between (O.Order.meaning self.now.order.now) self.now.words.now self.now.given.now rows.new }
         ensures raised { Raised (O.rank_of self.now.order.now) rows.old rows.new result }
-        ensures settled { result ≡ false → (O.Order.meaning self.now.order.now).flows level (cell (length self.now.words.now) rows.new row column) ≡ true }
+        ensures settled { (O.Order.meaning self.now.order.now).flows level (cell (length self.now.words.now) rows.new row column) ≡ true }
     {
-        let index = usize::from(row) * COLUMNS + usize::from(column);
-        raise(self.order, rows, index, level)
+        raise(self.order, rows, index_of(row, column), level)
+    }
+
+    /// Raises the levels of all places in a row to their joins with levels that are due there, in the order of the columns of places,
+    /// and answers whether that changed one.
+    #[tactic(auto, using(crate::proofs::Sets::place_level))]
+    pub(crate) fn raise_places(&self, rows: &mut [u16], row: u16, levels: &[u16; PLACES]) -> bool
+        requires between { Between (O.Order.meaning self.now.order.now) self.now.words.now self.now.given.now rows.old }
+        requires row { row ≤ length self.now.words.now }
+        requires due { DuePlaces (O.Order.meaning self.now.order.now) self.now.words.now self.now.given.now row levels.now }
+        ensures between { Between (O.Order.meaning self.now.order.now) self.now.words.now self.now.given.now rows.new }
+        ensures raised { Raised (O.rank_of self.now.order.now) rows.old rows.new result }
+        ensures settled { result ≡ false → PlacesFlow (O.Order.meaning self.now.order.now) self.now.words.now self.now.given.now rows.new row levels.now }
+    {
+        let columns = place_columns();
+        let mut changed = false;
+        for index in 0..PLACES {
+            changed |= self.raise_cell(rows, row, columns[index], levels[index]);
+        }
+        changed
+    }
+
+    /// Raises the region level of a row, if it is inside a region, to its join with a pc_level that comes from inside one, and answers
+    /// whether that changed it.
+    #[tactic(auto, using(crate::proofs::Sets::region_level))]
+    pub(crate) fn raise_region(&self, rows: &mut [u16], row: u16, inside: bool, pc_level: u16) -> bool
+        requires between { Between (O.Order.meaning self.now.order.now) self.now.words.now self.now.given.now rows.old }
+        requires row { row ≤ length self.now.words.now }
+        requires due { DueRegion (O.Order.meaning self.now.order.now) self.now.words.now self.now.given.now inside row pc_level }
+        ensures between { Between (O.Order.meaning self.now.order.now) self.now.words.now self.now.given.now rows.new }
+        ensures raised { Raised (O.rank_of self.now.order.now) rows.old rows.new result }
+        ensures settled { RegionFlows (O.Order.meaning self.now.order.now) self.now.words.now self.now.given.now rows.new inside row pc_level }
+    {
+        let given = RowsView {
+            rows: self.given,
+            words: self.words.len(),
+        };
+        if inside && given.remaining(u32::from(row)) > 0 {
+            self.raise_cell(rows, row, REGION, pc_level)
+        } else {
+            false
+        }
     }
 }

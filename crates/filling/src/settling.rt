@@ -1,0 +1,103 @@
+//! Levels raised along all ways of a routine, until they settle.
+ghost use Rattle.std.specs.Prelude.{◌≡◌, ℕ, ◌+◌, ◌<◌, ◌≤◌, ◌==◌, false, length, nat_lt};
+ghost use Rattle.avr.specs.Chip.{instruction_of, kind_of, avr};
+ghost use Rattle.machine.specs.Machine.{calls};
+ghost use Rattle.secrecy.specs.Rows.{rows_of};
+ghost use Rattle.secrecy.specs.Rules.{calls_to};
+ghost use Rattle.secrecy.specs.Filling.{Leads, Settled};
+ghost use Rattle.filling.specs.Between.{Between, Departs, DueAlong, SettledTo, SettledFrom, Raised};
+
+use flow::leveling::Leveling;
+use levels::ranked::Ranked;
+use row_layout::{PLACES, RoutineView, RowsView, place_columns};
+use std::array;
+use words::instruction::Instruction;
+use words::route::Route;
+
+/// A routine whose levels are filled in: its words, the rows that are given, and the order that levels are of.
+pub(crate) struct Job<'j, O> {
+    pub words: &'j [u16],
+    pub given: &'j [u16],
+    pub order: &'j O,
+    ghost few: { length words.now ≤ 1024 },
+}
+
+/// What the word at an address leaves behind: the level of each place after it, in the order of their columns, its pc_level, and
+/// whether it stands inside a region.
+#[derive(Clone, Copy)]
+pub(crate) struct Departure {
+    pub at: u16,
+    pub levels: [u16; PLACES],
+    pub pc_level: u16,
+    pub inside: bool,
+}
+
+impl<O: Ranked> Job<'_, O> {
+    /// How many words there are.
+    pub(crate) fn len(&self) -> u16
+        ensures { result ≡ length self.now.words.now }
+    {
+        self.words.len() as u16
+    }
+
+    /// The given rows.
+    pub(crate) fn given_rows(&self) -> RowsView<'_>
+        ensures rows { result.rows.now ≡ self.now.given.now }
+        ensures words { result.words ≡ length self.now.words.now }
+    {
+        RowsView {
+            rows: self.given,
+            words: self.words.len(),
+        }
+    }
+
+    /// The instruction at an address.
+    pub(crate) fn instruction(&self, at: u16) -> Instruction
+        ensures { result ≡ instruction_of self.now.words.now at }
+    {
+        RoutineView::new(self.words, self.given).instruction(at)
+    }
+
+    /// What the word at an address leaves behind by some rows.
+    pub(crate) fn depart(&self, rows: &[u16], at: u16) -> Departure
+        requires between { Between (O.Order.meaning self.now.order.now) self.now.words.now self.now.given.now rows.now }
+        requires at { at < length self.now.words.now }
+        ensures at { result.at ≡ at }
+        ensures inside { result.inside ≡ nat_lt 0 ((rows_of (length self.now.words.now) rows.now).remaining at) }
+        ensures departs { Departs (O.Order.meaning self.now.order.now) self.now.words.now self.now.given.now rows.now at result.levels result.pc_level }
+        ensures due { DueAlong (O.Order.meaning self.now.order.now) self.now.words.now self.now.given.now at result.levels result.inside result.pc_level }
+    {
+        let routine = RoutineView::new(self.words, rows);
+        let instruction = routine.instruction(at);
+        let leveling = Leveling {
+            routine,
+            order: self.order,
+        };
+        let columns = place_columns();
+        Departure {
+            at,
+            levels: array::from_fn(|index| leveling.level_after(at, instruction, columns[index])),
+            pc_level: leveling.pc_level(at),
+            inside: routine.rows.remaining(u32::from(at)) > 0,
+        }
+    }
+
+    /// Raises a row to what a word leaves behind that leads there, and answers whether that changed it. An address past the finish row
+    /// has no row.
+    pub(crate) fn raise_along(&self, rows: &mut [u16], next: u32, departure: &Departure) -> bool
+        requires between { Between (O.Order.meaning self.now.order.now) self.now.words.now self.now.given.now rows.old }
+        requires leads { Leads (O.Order.meaning self.now.order.now) (avr self.now.words.now) (rows_of (length self.now.words.now) self.now.given.now) departure.now.at next }
+        requires due { DueAlong (O.Order.meaning self.now.order.now) self.now.words.now self.now.given.now departure.now.at departure.now.levels departure.now.inside departure.now.pc_level }
+        ensures between { Between (O.Order.meaning self.now.order.now) self.now.words.now self.now.given.now rows.new }
+        ensures raised { Raised (O.rank_of self.now.order.now) rows.old rows.new result }
+        ensures settled { result ≡ false → next ≤ length self.now.words.now → SettledTo (O.Order.meaning self.now.order.now) self.now.words.now self.now.given.now rows.new departure.now.levels departure.now.inside departure.now.pc_level next }
+    {
+        if next > u32::from(self.len()) {
+            return false;
+        }
+        let row = next as u16;
+        let places = self.raise_places(rows, row, &departure.levels);
+        let region = self.raise_region(rows, row, departure.inside, departure.pc_level);
+        places | region
+    }
+}
