@@ -1,5 +1,5 @@
 -- One number of some rows, changed.
-use Rattle.std.proofs.Common.{◌≡◌, ℕ, ◌+◌, ◌*◌, ◌<◌, ◌≤◌, Bool, true, false, cond, nat_lt, nat_eq, List, length, set, get_or, refl, arith, length-set, get_or-set_other, ◌≢◌, ◌⊎◌, inl, inr, ⊎_elim}
+use Rattle.std.proofs.Common.{◌≡◌, ℕ, ◌+◌, ◌*◌, ◌<◌, ◌≤◌, Bool, true, false, cond, nat_lt, nat_eq, List, [], ◌∷◌, length, set, get_or, refl, arith, length-set, get_or-set_other, ◌≢◌, ◌⊎◌, inl, inr, ⊎_elim}
 use Rattle.std.proofs.lemmas.Bool.{cases_Bool}
 use Rattle.std.proofs.lemmas.Bool.Decides.{nat_tests}
 use Rattle.std.proofs.lemmas.Grind.{get_or-set_at}
@@ -12,6 +12,11 @@ use Rattle.filling.specs.Between.{weight, IsLevel}
 -- the weight of rows of which one number is changed
 pub weight_set : (rank : ℕ → ℕ) (xs : List ℕ) (i v : ℕ) → i < length xs → weight rank (set xs i v) + rank (get_or xs i 0) ≡ weight rank xs + rank v
 weight_set rank xs i v l = sum_by-set rank xs i v 0 l
+
+-- and a bound of it
+pub weight_bound : (rank : ℕ → ℕ) (xs : List ℕ) → ((a : ℕ) → rank a < 65536) → weight rank xs ≤ 65535 * length xs
+weight_bound rank [] small = omega arith
+weight_bound rank (x ∷ xs) small = omega (arith, small x, weight_bound rank xs small)
 
 -- places are the columns below that of the region level
 pub place_small : (p : ℕ) → is_place p ≡ nat_lt p 35

@@ -1,9 +1,14 @@
 -- What words leave behind, and where it is due.
-use Rattle.std.proofs.Common.{◌≡◌, ℕ, ◌+◌, ◌*◌, ◌<◌, ◌≤◌, Bool, true, false, ◌||◌, nat_lt, List, [], ◌∷◌, length, get_or, refl, arith, ◌⊎◌, inl, inr, ⊎_elim, sym, ◌∙◌}
+use Rattle.std.proofs.Common.{◌≡◌, ℕ, ◌+◌, ◌*◌, ◌<◌, ◌≤◌, Bool, true, false, ◌||◌, nat_lt, List, [], ◌∷◌, Some, None, Option, length, get_or, slice_index_or, refl, arith, ap, subst, below_more, ◌⊎◌, inl, inr, ⊎_elim, sym, ◌∙◌}
 use Rattle.std.proofs.lemmas.Bool.Decides.{nat_tests}
 use Rattle.levels.specs.Order.{Meaning, Laws}
 use Rattle.machine.specs.Machine.{Machine, Kind, plain, forks, calls, rets}
-use Rattle.avr.specs.Chip.{avr}
+use Rattle.words.specs.declared.instruction.Instruction.{Instruction}
+use Rattle.words.specs.declared.route.Route.{Route}
+use Rattle.words.specs.declared.route.Route.TheVariants.{To, Jump, Fork, Call, Return}
+use Rattle.avr.specs.Chip.{kind_by, avr}
+use Rattle.judge.specs.Worked.{callee_of}
+use Rattle.filling.specs.Callees.{Callees}
 use Rattle.secrecy.specs.Rows.{Rows, rows_of, cell, columns, is_place, place_columns}
 use Rattle.secrecy.specs.Flow.{joined, join_of_all, deciding_of, deciding, pc_level, level_after}
 use Rattle.secrecy.specs.Filling.{SameGiven, Below, LeadsBy, Leads, AllHeld, FillsIn, SettledOn, RaisesBelow}
@@ -20,6 +25,38 @@ raised_then rank xs ys zs false false h k = record { more = λ e. absurd (cc); u
 
 pub not_raised : (rank : ℕ → ℕ) (xs : List ℕ) → Raised rank xs xs false
 not_raised rank xs = record { more = λ e. absurd (cc); unchanged = λ e. refl }
+
+-- what holds of each index below i where nothing was raised, and of i, holds of each up to i
+pub settled_more : (P : List ℕ → ℕ → Type 0) (rank : ℕ → ℕ) (ys zs : List ℕ) (f g : Bool) (i : ℕ) → Raised rank ys zs g → (f ≡ false → (a : ℕ) → a < i → P ys a) → (g ≡ false → P zs i) →
+    (f || g) ≡ false → (a : ℕ) → a < i + 1 → P zs a
+settled_more P rank ys zs true g i r before here e = absurd (cc)
+settled_more P rank ys zs false true i r before here e = absurd (cc)
+settled_more P rank ys zs false false i r before here e = below_more (P zs) i (λ a l. subst (λ (xs : List ℕ). P xs a) (sym (r.unchanged refl)) (before refl a l)) (here refl)
+
+-- a word that calls a function is a call of it
+calls_by : (k : Kind) (t : ℕ) → callee_of k ≡ Some t → (d : ℕ) × (k ≡ calls t d)
+calls_by (plain b c) t e = absurd (cc)
+calls_by (forks qs b c b' c') t e = absurd (cc)
+calls_by (calls u d) t e = (d, (let q : u ≡ t = cc in rw q refl))
+calls_by (rets c) t e = absurd (cc)
+
+pub caller_is : (ws : List ℕ) (callees : List (Option ℕ)) (k t : ℕ) → Callees ws callees → k < 1024 → slice_index_or callees k None ≡ Some t → (d : ℕ) × ((avr ws).kind k ≡ calls t d)
+caller_is ws callees k t h l e = calls_by ((avr ws).kind k) t (sym (h.each k l) ∙ e)
+
+pub caller_known : (ws : List ℕ) (callees : List (Option ℕ)) (k t d : ℕ) → Callees ws callees → k < 1024 → (avr ws).kind k ≡ calls t d → slice_index_or callees k None ≡ Some t
+caller_known ws callees k t d h l e = h.each k l ∙ ap callee_of e
+
+-- where a word leads, by its route
+module _ (m : Meaning) (ws : List ℕ) (R : Rows) (a : ℕ) where
+  pub to_next : (r : Route) (i : Instruction) (next b : ℕ) → (r ≡ To next) ⊎ (r ≡ Jump next) ⊎ (r ≡ Call next) → LeadsBy m (avr ws) R a (kind_by r i) b → b ≡ next
+  to_next r i next b h way = grind arith
+
+  pub to_fork : (r : Route) (i : Instruction) (on aside b : ℕ) → r ≡ Fork on aside → LeadsBy m (avr ws) R a (kind_by r i) b → (b ≡ on) ⊎ (b ≡ aside)
+  to_fork r i on aside b e way = let w = rw e at way in w
+
+  pub to_back : (r : Route) (i : Instruction) (b : ℕ) → r ≡ Return → LeadsBy m (avr ws) R a (kind_by r i) b →
+      ((k : ℕ) × (k < length ws) × ((d : ℕ) × ((avr ws).kind k ≡ calls (R.function a) d)) × (b ≡ k + 1)) ⊎ ((R.function a ≡ 0) × (b ≡ length ws))
+  to_back r i b e way = let w = rw e at way in w
 
 -- where a word leads is a matter of given columns
 leads_by : {B V W : Type 0} (m : Meaning) (M : Machine B V W) (R S : Rows) → SameGiven R S → (a : ℕ) (k : Kind) (b : ℕ) → LeadsBy m M R a k b → LeadsBy m M S a k b
@@ -115,3 +152,10 @@ module _ (m : Meaning) (laws : Laws m) where
           grind arith;
       region = λ h k. rw (← d.pc_level) (s.1 (grind (arith, nat_tests)) (let e = between.same.remaining b in omega arith));
     }
+
+    -- if what is left behind flows to wherever the word leads, nothing is left to raise from there
+    pub settled_from : (a known : ℕ) (levels : List ℕ) (inside : Bool) → Departs m ws given rows a levels known → inside ≡ nat_lt 0 (R.remaining a) →
+        ((b : ℕ) → b ≤ n → Leads m (avr ws) (rows_of n given) a b → SettledTo m ws given rows levels inside known b) → SettledFrom m ws given rows a
+    settled_from a known levels inside d e each b l way =
+        settled_on a known b levels d
+        (subst (λ (v : Bool). SettledTo m ws given rows levels v known b) e (each b l (leads_same m (avr ws) R (rows_of n given) between.same a b way)))
