@@ -17,6 +17,10 @@ pub record RankLaws (m : Meaning) (rank : ℕ → ℕ) : Type 0 where
   -- each rank has 16 bits
   pub word_rank : (a : ℕ) → rank a < 65536
 
+-- Where a held level is joined with another held one, it stays or its rank rises.
+abbrev pub JoinRaises : Meaning → (ℕ → ℕ) → Type 0
+JoinRaises m rank = (a b : ℕ) → m.held a ≡ true → m.held b ≡ true → m.join a b ≢ a → rank a < rank (m.join a b)
+
 -- In a chain of n levels a level has its own code for a rank.
 abbrev pub chain_rank : ℕ → ℕ → ℕ
 chain_rank n a = cond (nat_lt a n) a 0
