@@ -65,10 +65,9 @@ impl Ranked for Compartments {
     ghost ranked = { λ o. union_ranks o.bits o.size.1 };
 
     fn rank(&self, code: u16) -> u16 {
-        if self.holds(code) {
-            code.count_ones() as u16
-        } else {
-            0
+        if !self.holds(code) {
+            return 0;
         }
+        code.count_ones() as u16
     }
 }

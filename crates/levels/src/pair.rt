@@ -53,10 +53,9 @@ impl<A: Ranked, B: Ranked> Ranked for Pair<A, B> {
     ghost ranked = { λ o. pair_ranks _ _ (A.Order.lawful o.first) (B.Order.lawful o.second) _ _ (A.Ranked.ranked o.first) (B.Ranked.ranked o.second) };
 
     fn rank(&self, code: u16) -> u16 {
-        if self.holds(code) {
-            self.first.rank(code / 256) + self.second.rank(code % 256)
-        } else {
-            0
+        if !self.holds(code) {
+            return 0;
         }
+        self.first.rank(code / 256) + self.second.rank(code % 256)
     }
 }

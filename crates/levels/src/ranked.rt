@@ -1,6 +1,6 @@
 //! Orders whose levels have ranks.
 ghost use Rattle.std.specs.Prelude.{◌≡◌, ℕ};
-ghost use Rattle.levels.specs.Ranks.{RankLaws};
+ghost use Rattle.levels.specs.Ranks.{RankLaws, JoinRaises};
 
 use crate::order::Order;
 
@@ -19,3 +19,9 @@ pub trait Ranked: Order {
     /// The ranks of every order keep the laws.
     ghost ranked: { (o : Self) → RankLaws (Self.Order.meaning o) (rank_of o) };
 }
+
+/// In every ranked order a level that is joined with another either stays, or its rank rises. The law stands in the contract;
+/// the call itself answers nothing.
+pub fn join_raises<O: Ranked>()
+    ensures { (o : O) → JoinRaises (O.Order.meaning o) (O.Ranked.rank_of o) }
+{}

@@ -119,7 +119,7 @@ impl Ranked for Table {
     ghost ranked = { λ o. table_ranks o.levels o.joins o.size.0 o.size.1 o.sound };
 
     fn rank(&self, code: u16) -> u16 {
-        let below = |other: &u16| self.flows(*other, code) && *other != code;
-        (0..u16::from(self.levels)).filter(below).count() as u16
+        let flows_strictly = |other: &u16| self.flows(*other, code) && *other != code;
+        (0..u16::from(self.levels)).filter(flows_strictly).count() as u16
     }
 }
