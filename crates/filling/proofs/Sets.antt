@@ -1,9 +1,10 @@
 -- One number of some rows, changed.
-use Rattle.std.proofs.Common.{◌≡◌, ℕ, ◌+◌, ◌*◌, ◌<◌, ◌≤◌, Bool, true, false, cond, nat_lt, nat_eq, List, [], ◌∷◌, length, set, get_or, refl, arith, length-set, get_or-set_other, ◌≢◌, ◌⊎◌, inl, inr, ⊎_elim}
+use Rattle.std.proofs.Common.{◌≡◌, ℕ, ◌+◌, ◌*◌, ◌<◌, ◌≤◌, Bool, true, false, cond, nat_lt, nat_eq, List, length, set, get_or, refl, arith, length-set, get_or-set_other, ◌≢◌, ◌⊎◌, inl, inr, ⊎_elim}
 use Rattle.std.proofs.lemmas.Bool.{cases_Bool}
 use Rattle.std.proofs.lemmas.Bool.Decides.{nat_tests}
 use Rattle.std.proofs.lemmas.Grind.{get_or-set_at}
-use Rattle.std.proofs.lemmas.List.Sums.{sum_by-set}
+use Rattle.std.proofs.lemmas.List.Sums.{sum_by-set, sum_by-le}
+use Rattle.std.proofs.lemmas.List.Elements.{All-from_get_or}
 use Rattle.std.proofs.lemmas.List.FromFn.{get_or-range_with_len}
 use Rattle.secrecy.specs.Rows.{rows_of, cell, columns, is_among, is_place, place_columns, level_columns, region_column}
 use Rattle.secrecy.proofs.Columns.{among-range, level_column}
@@ -15,8 +16,7 @@ weight_set rank xs i v l = sum_by-set rank xs i v 0 l
 
 -- and a bound of it
 pub weight_bound : (rank : ℕ → ℕ) (xs : List ℕ) → ((a : ℕ) → rank a < 65536) → weight rank xs ≤ 65535 * length xs
-weight_bound rank [] small = omega arith
-weight_bound rank (x ∷ xs) small = omega (arith, small x, weight_bound rank xs small)
+weight_bound rank xs small = let h = sum_by-le rank 65535 xs (All-from_get_or (λ x. rank x ≤ 65535) xs 0 (λ i l. let s = small (get_or xs i 0) in omega arith)) in omega arith
 
 -- places are the columns below that of the region level
 pub place_small : (p : ℕ) → is_place p ≡ nat_lt p 35

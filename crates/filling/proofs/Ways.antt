@@ -1,5 +1,5 @@
 -- What words leave behind, and where it is due.
-use Rattle.std.proofs.Common.{◌≡◌, ℕ, ◌+◌, ◌*◌, ◌<◌, ◌≤◌, Bool, true, false, ◌||◌, nat_lt, List, [], ◌∷◌, Some, None, Option, length, get_or, slice_index_or, refl, arith, ap, subst, below_more, ◌⊎◌, inl, inr, ⊎_elim, sym, ◌∙◌}
+use Rattle.std.proofs.Common.{◌≡◌, ℕ, ◌+◌, ◌*◌, ◌<◌, ◌≤◌, Bool, true, false, ◌||◌, nat_lt, nat_eq, List, [], ◌∷◌, Some, None, Option, length, get_or, refl, arith, subst, below_more, ◌⊎◌, inl, inr, ⊎_elim, sym, ◌∙◌}
 use Rattle.std.proofs.lemmas.Bool.Decides.{nat_tests}
 use Rattle.levels.specs.Order.{Meaning, Laws}
 use Rattle.machine.specs.Machine.{Machine, Kind, plain, forks, calls, rets}
@@ -8,7 +8,7 @@ use Rattle.words.specs.declared.route.Route.{Route}
 use Rattle.words.specs.declared.route.Route.TheVariants.{To, Jump, Fork, Call, Return}
 use Rattle.avr.specs.Chip.{kind_by, avr}
 use Rattle.judge.specs.Worked.{callee_of}
-use Rattle.filling.specs.Callees.{Callees}
+use Rattle.secrecy.specs.Rules.{calls_to}
 use Rattle.secrecy.specs.Rows.{Rows, rows_of, cell, columns, is_place, place_columns}
 use Rattle.secrecy.specs.Flow.{joined, join_of_all, deciding_of, deciding, pc_level, level_after}
 use Rattle.secrecy.specs.Filling.{SameGiven, Below, LeadsBy, Leads, AllHeld, FillsIn, SettledOn, RaisesBelow}
@@ -34,17 +34,28 @@ settled_more P rank ys zs false true i r before here e = absurd (cc)
 settled_more P rank ys zs false false i r before here e = below_more (P zs) i (λ a l. subst (λ (xs : List ℕ). P xs a) (sym (r.unchanged refl)) (before refl a l)) (here refl)
 
 -- a word that calls a function is a call of it
-calls_by : (k : Kind) (t : ℕ) → callee_of k ≡ Some t → (d : ℕ) × (k ≡ calls t d)
-calls_by (plain b c) t e = absurd (cc)
-calls_by (forks qs b c b' c') t e = absurd (cc)
-calls_by (calls u d) t e = (d, (let q : u ≡ t = cc in rw q refl))
-calls_by (rets c) t e = absurd (cc)
+pub called : (k : Kind) (t : ℕ) → calls_to k t ≡ true → (d : ℕ) × (k ≡ calls t d)
+called (plain b c) t e = absurd (cc)
+called (forks qs b c b' c') t e = absurd (cc)
+called (calls u d) t e = (d, (let q : u ≡ t = grind (arith, nat_tests) in rw q refl))
+called (rets c) t e = absurd (cc)
 
-pub caller_is : (ws : List ℕ) (callees : List (Option ℕ)) (k t : ℕ) → Callees ws callees → k < 1024 → slice_index_or callees k None ≡ Some t → (d : ℕ) × ((avr ws).kind k ≡ calls t d)
-caller_is ws callees k t h l e = calls_by ((avr ws).kind k) t (sym (h.each k l) ∙ e)
+-- and no other word is
+pub uncalled : (k : Kind) (t d : ℕ) → calls_to k t ≡ false → k ≡ calls t d → ⊥
+uncalled k t d e f = let g = rw f at e in grind (arith, nat_tests)
 
-pub caller_known : (ws : List ℕ) (callees : List (Option ℕ)) (k t d : ℕ) → Callees ws callees → k < 1024 → (avr ws).kind k ≡ calls t d → slice_index_or callees k None ≡ Some t
-caller_known ws callees k t d h l e = h.each k l ∙ ap callee_of e
+-- by the callees of words, which are worked out once
+pub calls_known : (k : Kind) (t : ℕ) (o : Option ℕ) → o ≡ callee_of k → (n : ℕ) (b : Bool) → (o ≡ Some n) → b ≡ nat_eq n t → b ≡ calls_to k t
+calls_known (plain b c) t o e n v f g = absurd (cc)
+calls_known (forks qs b c b' c') t o e n v f g = absurd (cc)
+calls_known (calls u d) t o e n v f g = let q : n ≡ u = cc in rw (g, q)
+calls_known (rets c) t o e n v f g = absurd (cc)
+
+pub calls_none : (k : Kind) (t : ℕ) (o : Option ℕ) → o ≡ callee_of k → o ≡ None → false ≡ calls_to k t
+calls_none (plain b c) t o e f = refl
+calls_none (forks qs b c b' c') t o e f = refl
+calls_none (calls u d) t o e f = absurd (cc)
+calls_none (rets c) t o e f = refl
 
 -- where a word leads, by its route
 module _ (m : Meaning) (ws : List ℕ) (R : Rows) (a : ℕ) where
@@ -159,3 +170,15 @@ module _ (m : Meaning) (laws : Laws m) where
     settled_from a known levels inside d e each b l way =
         settled_on a known b levels d
         (subst (λ (v : Bool). SettledTo m ws given rows levels v known b) e (each b l (leads_same m (avr ws) R (rows_of n given) between.same a b way)))
+
+    -- the same of rows that a raise left as they are
+    pub unchanged_from : (rank : ℕ → ℕ) (new : List ℕ) (flag : Bool) (a known : ℕ) (levels : List ℕ) (inside : Bool) → Raised rank rows new flag → flag ≡ false →
+        Departs m ws given rows a levels known → inside ≡ nat_lt 0 (R.remaining a) →
+        ((b : ℕ) → b ≤ n → Leads m (avr ws) (rows_of n given) a b → SettledTo m ws given new levels inside known b) → SettledFrom m ws given new a
+    unchanged_from rank new flag a known levels inside r e d i each =
+        let q = r.unchanged e in
+        subst (λ (xs : List ℕ). SettledFrom m ws given xs a) (sym q) (settled_from a known levels inside d i (λ b l way. subst (λ (xs : List ℕ). SettledTo m ws given xs levels inside known b) q (each b l way)))
+
+-- both of two flags
+pub neither : (f g : Bool) → (f || g) ≡ false → (f ≡ false) × (g ≡ false)
+neither f g e = grind (arith, nat_tests)

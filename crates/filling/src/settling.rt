@@ -109,6 +109,18 @@ impl<O: Ranked> Job<'_, O> {
         places | region
     }
 
+    /// Whether the word at an address calls a function.
+    #[tactic(auto, using(crate::proofs::Ways::calls_known, crate::proofs::Ways::calls_none))]
+    fn calls(&self, caller: u16, function: u16) -> bool
+        requires { caller < 1024 }
+        ensures { result ≡ calls_to ((avr self.now.words.now).kind caller) function }
+    {
+        match self.callees[usize::from(caller)] {
+            Some(callee) => callee == u32::from(function),
+            None => false,
+        }
+    }
+
     /// Raises the row behind the word at an address, if that calls a function, to what a return of it leaves behind, and answers
     /// whether that changed it.
     fn raise_caller(&self, rows: &mut [u16], caller: u16, function: u16, departure: &Departure) -> bool
@@ -120,8 +132,7 @@ impl<O: Ranked> Job<'_, O> {
         ensures raised { Raised (O.rank_of self.now.order.now) rows.old rows.new result }
         ensures settled { result ≡ false → (d : ℕ) → (avr self.now.words.now).kind caller ≡ calls function d → SettledTo (O.Order.meaning self.now.order.now) self.now.words.now self.now.given.now rows.new departure.now.levels departure.now.inside departure.now.pc_level (caller + 1) }
     {
-        let callee = self.callees[usize::from(caller)];
-        if callee == Some(u32::from(function)) {
+        if self.calls(caller, function) {
             self.raise_along(rows, u32::from(caller) + 1, departure)
         } else {
             false
