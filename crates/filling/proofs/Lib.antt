@@ -1,3 +1,4 @@
 pub mod Sets
 pub mod Raises
 pub mod Ways
+pub mod Seeding
