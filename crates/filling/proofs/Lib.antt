@@ -2,3 +2,4 @@ pub mod Sets
 pub mod Raises
 pub mod Ways
 pub mod Seeding
+pub mod Least

@@ -43,3 +43,7 @@ module _ (m : Meaning) (ws given old new : List ℕ) where
   Answered (Err (Words f)) = Unread (filling_refusal (Words f))
   Answered (Err (Rows f)) = Unread (filling_refusal (Rows f))
   Answered (Err Unfillable) = NoneFill
+
+-- two least sets of rows that fill in what is given are the same
+abbrev pub LeastIsOne : Meaning → List ℕ → List ℕ → Type 0
+LeastIsOne m ws given = (xs ys : List ℕ) → LeastIn m (avr ws) given xs → LeastIn m (avr ws) given ys → xs ≡ ys

@@ -11,6 +11,7 @@ use levels::order::Order;
 use row_layout::{COLUMNS, FUNCTION, JOIN, REGION, REMAINING, RowsView, level_columns};
 
 /// Given rows as they are read: what is not read counts as 0.
+#[derive(Drop)]
 pub(crate) struct Reading<'g, O> {
     pub rows: RowsView<'g>,
     pub order: &'g O,

@@ -5,6 +5,7 @@ ghost use Rattle.machine.specs.Machine.{calls};
 ghost use Rattle.secrecy.specs.Rows.{rows_of};
 ghost use Rattle.secrecy.specs.Rules.{calls_to};
 ghost use Rattle.secrecy.specs.Filling.{Leads, Settled};
+ghost use Rattle.judge.specs.Worked.{callee_of};
 ghost use Rattle.filling.specs.Callees.{Callees};
 ghost use Rattle.filling.specs.Between.{Between, Departs, DueAlong, SettledTo, SettledFrom, Raised};
 
@@ -20,6 +21,7 @@ pub(crate) const CAPACITY: usize = 1024;
 
 /// A routine whose levels are filled in: its words, the rows that are given, the order that levels are of,
 /// and the function that each word calls.
+#[derive(Drop)]
 pub(crate) struct Job<'j, O> {
     pub words: &'j [u16],
     pub given: &'j [u16],
@@ -38,6 +40,23 @@ pub(crate) struct Departure {
     pub levels: [u16; PLACES],
     pub pc_level: u16,
     pub inside: bool,
+}
+
+/// The function that the word at an address calls, if it calls one.
+fn callee(words: &[u16], at: u16) -> Option<u32>
+    ensures { result ≡ callee_of ((avr words.now).kind at) }
+{
+    match RoutineView::new(words, &[]).instruction(at).route(at) {
+        Route::Call(target) => Some(target),
+        Route::To(_) | Route::Jump(_) | Route::Fork(_, _) | Route::Return => None,
+    }
+}
+
+/// The function that each word calls.
+pub(crate) fn callees(words: &[u16]) -> [Option<u32>; CAPACITY]
+    ensures { Callees words.now result }
+{
+    array::from_fn(|at| callee(words, at as u16))
 }
 
 impl<O: Ranked> Job<'_, O> {
