@@ -1,5 +1,5 @@
 -- The least rows are accepted, and they are one.
-use Rattle.std.proofs.Common.{◌≡◌, ℕ, ◌+◌, ◌*◌, ◌/◌, ◌%◌, ◌<◌, ◌≤◌, Bool, true, false, nat_lt, List, length, get_or, refl, arith, sym, ◌∙◌}
+use Rattle.std.proofs.Common.{◌≡◌, ℕ, ◌+◌, ◌*◌, ◌/◌, ◌%◌, ◌<◌, ◌≤◌, Bool, true, false, nat_lt, List, length, get_or, Ok, Err, refl, arith, sym, ◌∙◌}
 use Rattle.std.proofs.lemmas.Bool.Decides.{nat_tests}
 use Rattle.std.proofs.lemmas.List.{ext_get_or}
 use Rattle.levels.specs.Order.{Meaning, Laws}
@@ -9,7 +9,11 @@ use Rattle.secrecy.specs.Accepted.{Accepts}
 use Rattle.secrecy.specs.Filling.{SameGiven, RowBelow, Below, AllHeld, FillsIn, LeastIn, Settled}
 use Rattle.secrecy.proofs.Fillings.{settles}
 use Rattle.filling.specs.Between.{Between}
-use Rattle.filling.specs.Answers.{LeastIsOne}
+use Rattle.verdicts.specs.Verdict.{refused}
+use Rattle.filling.specs.declared.fault.FillingFault.{FillingFault}
+use Rattle.filling.specs.declared.fault.FillingFault.TheVariants as fault
+use Rattle.filling.specs.Seeds.{given_verdict}
+use Rattle.filling.specs.Answers.{filling_refusal, Answered, LeastIsOne}
 use Rattle.filling.proofs.Sets.{place_small}
 
 module _ (m : Meaning) (laws : Laws m) (ws given : List ℕ) where
@@ -21,12 +25,12 @@ module _ (m : Meaning) (laws : Laws m) (ws given : List ℕ) where
   settled_accepted rows other between settled fills = (
     between.whole,
     settles m laws (avr ws) (rows_of n rows) (rows_of n other) fills.accepted.1
-    (record {
-      join_address = λ a. between.same.join_address a ∙ sym (fills.same.join_address a);
-      remaining = λ a. between.same.remaining a ∙ sym (fills.same.remaining a);
-      function = λ a. between.same.function a ∙ sym (fills.same.function a);
-    })
-    (between.below other fills) between.held settled,
+        (record {
+          join_address = λ a. between.same.join_address a ∙ sym (fills.same.join_address a);
+          remaining = λ a. between.same.remaining a ∙ sym (fills.same.remaining a);
+          function = λ a. between.same.function a ∙ sym (fills.same.function a);
+        })
+        (between.below other fills) between.held settled,
   )
 
   module _ (xs ys : List ℕ) (x : LeastIn m (avr ws) given xs) (y : LeastIn m (avr ws) given ys) where
@@ -58,3 +62,9 @@ module _ (m : Meaning) (laws : Laws m) (ws given : List ℕ) where
 
 pub least_is_one : (m : Meaning) → Laws m → (ws given : List ℕ) → LeastIsOne m ws given
 least_is_one m laws ws given xs ys x y = same m laws ws given xs ys x y
+
+-- what is refused early leaves everything
+pub unread : (m : Meaning) (ws given old : List ℕ) (f : FillingFault) → (f ≡ fault.Unfillable → ⊥) → refused (filling_refusal f) ≡ given_verdict m ws given old → Answered m ws given old old (Err f)
+unread m ws given old (fault.Words f) early e = record { refuses = sym e; unchanged = refl }
+unread m ws given old (fault.Rows f) early e = record { refuses = sym e; unchanged = refl }
+unread m ws given old fault.Unfillable early e = absurd (early refl)

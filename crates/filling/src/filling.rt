@@ -1,5 +1,6 @@
 //! Levels filled in.
-ghost use Rattle.std.specs.Prelude.{◌≡◌, ℕ, List, true, false, length, Ok};
+ghost use Rattle.std.specs.Prelude.{◌≡◌, ℕ, List, true, false, cond, length, Ok, Err};
+ghost use Rattle.filling.specs.declared.fault.FillingFault.TheVariants.{Unfillable};
 ghost use Rattle.verdicts.specs.Verdict.{fine, says};
 ghost use Rattle.words.specs.Legal.{legal_of};
 ghost use Rattle.avr.specs.Chip.{avr};
@@ -8,7 +9,7 @@ ghost use Rattle.secrecy.specs.Rules.{length_rule};
 ghost use Rattle.secrecy.specs.Hiding.{Hides};
 ghost use Rattle.secrecy.specs.Filling.{FillsIn, LeastIn};
 ghost use Rattle.judge.specs.Faults.{row_refusal};
-ghost use Rattle.filling.specs.Seeds.{seed_of, given_verdict};
+ghost use Rattle.filling.specs.Seeds.{is_read as is_read_at, seed_of, given_verdict};
 ghost use Rattle.filling.specs.Between.{Between};
 ghost use Rattle.filling.specs.Answers.{filling_refusal, zeros_of, Answered, LeastIsOne};
 
@@ -40,7 +41,8 @@ fn check<O: Order>(
     order: &O,
     receiving: &[u16],
 ) -> Result<(), FillingFault>
-    ensures { says filling_refusal result ≡ given_verdict (O.Order.meaning order.now) words.now given.now receiving.now }
+    ensures answer { says filling_refusal result ≡ given_verdict (O.Order.meaning order.now) words.now given.now receiving.now }
+    ensures early { result ≡ Err Unfillable → ⊥ }
 {
     Listing::check(words)?;
     check_length(words, given)?;
@@ -54,13 +56,20 @@ fn check<O: Order>(
     Ok(())
 }
 
+/// The number at an index of given rows, as it is read: 0 where it is not.
+fn read(index: usize, number: u16) -> u16
+    ensures { result ≡ cond (is_read_at index) number 0 }
+{
+    if is_read(index) { number } else { 0 }
+}
+
 /// Writes what is read of given rows to receiving ones, and 0 elsewhere.
 fn seed(given: &[u16], receiving: &mut [u16])
     requires { length receiving.old ≡ length given.now }
     ensures { receiving.new ≡ seed_of given.now }
 {
     for (index, number) in given.iter().enumerate() {
-        receiving[index] = if is_read(index) { *number } else { 0 };
+        receiving[index] = read(index, *number);
     }
 }
 
@@ -100,7 +109,9 @@ pub fn fill_in<O: Ranked>(
     ensures hides { result ≡ Ok tt → Hides (O.Order.meaning order.now) (avr words.now) (rows_of (length words.now) receiving.new) }
     ensures one { LeastIsOne (O.Order.meaning order.now) words.now given.now }
 {
-    check(words, given, order, receiving)?;
+    if let Err(fault) = check(words, given, order, receiving) {
+        return Err(fault);
+    }
     seed(given, receiving);
     let job = Job {
         words,

@@ -6,7 +6,7 @@
 #![tactic(auto)]
 
 pub mod fault;
-mod reading;
-mod raising;
-mod settling;
 pub mod filling;
+mod raising;
+mod reading;
+mod settling;

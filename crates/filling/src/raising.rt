@@ -62,7 +62,13 @@ impl<O: Ranked> Job<'_, O> {
     /// Raises the region level of a row, if it is inside a region, to its join with a pc_level that comes from inside one, and answers
     /// whether that changed it.
     #[tactic(auto, using(crate::proofs::Sets::region_level))]
-    pub(crate) fn raise_region(&self, rows: &mut [u16], row: u16, inside: bool, pc_level: u16) -> bool
+    pub(crate) fn raise_region(
+        &self,
+        rows: &mut [u16],
+        row: u16,
+        inside: bool,
+        pc_level: u16,
+    ) -> bool
         requires between { Between (O.Order.meaning self.now.order.now) self.now.words.now self.now.given.now rows.old }
         requires row { row ≤ length self.now.words.now }
         requires due { DueRegion (O.Order.meaning self.now.order.now) self.now.words.now self.now.given.now inside row pc_level }

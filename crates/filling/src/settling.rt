@@ -142,7 +142,13 @@ impl<O: Ranked> Job<'_, O> {
 
     /// Raises the row behind the word at an address, if that calls a function, to what a return of it leaves behind, and answers
     /// whether that changed it.
-    fn raise_caller(&self, rows: &mut [u16], caller: u16, function: u16, departure: &Departure) -> bool
+    fn raise_caller(
+        &self,
+        rows: &mut [u16],
+        caller: u16,
+        function: u16,
+        departure: &Departure,
+    ) -> bool
         requires between { Between (O.Order.meaning self.now.order.now) self.now.words.now self.now.given.now rows.old }
         requires caller { caller < length self.now.words.now }
         requires leads { (d : ℕ) → (avr self.now.words.now).kind caller ≡ calls function d → Leads (O.Order.meaning self.now.order.now) (avr self.now.words.now) (rows_of (length self.now.words.now) self.now.given.now) departure.now.at (caller + 1) }

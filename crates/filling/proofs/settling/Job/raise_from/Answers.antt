@@ -17,9 +17,9 @@ returns-in-To-clause-settled g c = λ e.
     unchanged_from m (g.met.O.Order.lawful c.args.self.now.order.now) ws given c.args.rows.now c.requires.between (g.O.Ranked.rank_of c.args.self.now.order.now) _ _ c.args.at d.pc_level d.levels d.inside
     c.raise_along.ensures.raised e c.depart-departure.ensures.departs c.depart-departure.ensures.inside
     (λ b l way.
-        let q = to_next m ws (rows_of (length ws) given) c.args.at (route_of c.args.at i) i c.in-To.next b is way in
-        let P : ℕ → Type 0 = λ x. SettledTo m ws given c.raise_along.new.rows d.levels d.inside d.pc_level x in
-        subst P (sym q) (c.raise_along.ensures.settled e (rw q at l)))
+    let q = to_next m ws (rows_of (length ws) given) c.args.at (route_of c.args.at i) i c.in-To.next b is way in
+    let P : ℕ → Type 0 = λ x. SettledTo m ws given c.raise_along.new.rows d.levels d.inside d.pc_level x in
+    subst P (sym q) (c.raise_along.ensures.settled e (rw q at l)))
 
 pub returns-in-Fork-clause-settled : goal.returns-in-Fork-clause-settled
 returns-in-Fork-clause-settled g c = λ e.
@@ -36,10 +36,10 @@ returns-in-Fork-clause-settled g c = λ e.
     unchanged_from m (g.met.O.Order.lawful c.args.self.now.order.now) ws given c.args.rows.now c.requires.between (g.O.Ranked.rank_of c.args.self.now.order.now) _ _ c.args.at d.pc_level d.levels d.inside
     (raised_then _ _ _ _ _ _ s.raised t.raised) e c.depart-departure.ensures.departs c.depart-departure.ensures.inside
     (λ b l way.
-        ⊎_elim
-        (λ (q : b ≡ c.in-Fork.on). subst (λ (x : ℕ). P c.raise_along-diverted.new.rows x) (sym q) (subst (λ (xs : List ℕ). P xs c.in-Fork.on) (sym (t.raised.unchanged f.1)) (s.settled f.0 (rw q at l))))
-        (λ (q : b ≡ c.in-Fork.aside). subst (λ (x : ℕ). P c.raise_along-diverted.new.rows x) (sym q) (t.settled f.1 (rw q at l)))
-        (to_fork m ws (rows_of (length ws) given) c.args.at (route_of c.args.at i) i c.in-Fork.on c.in-Fork.aside b is way))
+    ⊎_elim
+    (λ (q : b ≡ c.in-Fork.on). subst (λ (x : ℕ). P c.raise_along-diverted.new.rows x) (sym q) (subst (λ (xs : List ℕ). P xs c.in-Fork.on) (sym (t.raised.unchanged f.1)) (s.settled f.0 (rw q at l))))
+    (λ (q : b ≡ c.in-Fork.aside). subst (λ (x : ℕ). P c.raise_along-diverted.new.rows x) (sym q) (t.settled f.1 (rw q at l)))
+    (to_fork m ws (rows_of (length ws) given) c.args.at (route_of c.args.at i) i c.in-Fork.on c.in-Fork.aside b is way))
 
 pub returns-in-Return-clause-settled : goal.returns-in-Return-clause-settled
 returns-in-Return-clause-settled g c = λ e.
