@@ -11,3 +11,5 @@ pub mod Running
 pub mod Lives
 pub mod Arrivals
 pub mod Hidings
+pub mod Monotone
+pub mod Fillings
