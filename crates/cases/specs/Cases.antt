@@ -159,7 +159,7 @@ judge_cases =
 abbrev pub cleared : ℕ → List ℕ
 cleared word = word ∷ (0xF009 ∷ (0x0000 ∷ (0x9508 ∷ [])))
 
--- r16 is secret in row 0 alone, and every other number is 0
+-- r16 is secret before the first word and never after; all else is 0
 abbrev pub cleared_rows : List ℕ
 cleared_rows = before ++ (row_of [] 0 0 0 ++ (row_of [] 0 0 0 ++ (row_of [] 0 0 0 ++ row_of [] 0 0 0)))
 

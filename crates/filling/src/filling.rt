@@ -91,7 +91,7 @@ fn complete<O: Ranked>(job: &Job<'_, O>, rows: &mut [u16]) -> bool
 }
 
 /// Fills levels in: the receiving rows become the least rows that the judge accepts with these words and this order, among those that
-/// have the given join addresses, remaining cycles and functions and whose first row lies at or above the given one. Of the given rows
+/// have the given join addresses, remaining cycles and functions and in whose first row no level lies below the given one. Of the given rows
 /// the levels of the first row are read, and of all rows these three columns; other levels are not. Anything may be passed.
 ///
 /// Refused, with the receiving rows as they were: words that are no listing; given rows, and then receiving rows, that are not as

@@ -23,7 +23,7 @@ abbrev pub Below : Meaning → Rows → Rows → Type 0
 Below m R S = (row : ℕ) → RowBelow m row R S
 
 module _ {B V W : Type 0} (m : Meaning) (M : Machine B V W) (given : List ℕ) where
-  -- rows that fill in what is given: they are accepted, have its given columns, and their first row lies at or above its own
+  -- rows that fill in what is given: they are accepted, have its given columns, and no level of its first row lies above theirs
   pub record FillsIn (rows : List ℕ) : Type 0 where
     pub accepted : Accepts m M rows
     pub same : SameGiven (rows_of M.size rows) (rows_of M.size given)
