@@ -1,5 +1,5 @@
 -- What each written place comes from: the one table by which secrecy levels follow the words. Assumes nothing.
-use Rattle.std.specs.Prelude.{ℕ, ◌+◌, cond, List, [], ◌∷◌, Some, None, Option, ◌==◌, nat_lt}
+use Rattle.std.specs.Prelude.{ℕ, ◌+◌, Bool, false, cond, List, [], ◌∷◌, Some, None, Option, ◌==◌, nat_lt}
 use Rattle.words.specs.declared.instruction.BinaryOp.{BinaryOp}
 use Rattle.words.specs.declared.instruction.BinaryOp.TheVariants as binary
 use Rattle.words.specs.declared.instruction.UnaryOp.{UnaryOp}
@@ -55,6 +55,16 @@ with_zero d qs = row d qs ∷ (row zero_place qs ∷ [])
 abbrev pub flags_only : List ℕ → List Row
 flags_only qs = row carry_place qs ∷ (row zero_place qs ∷ [])
 
+-- whether a second operand is the register d itself
+abbrev pub is_itself : ℕ → List ℕ → Bool
+is_itself d [] = false
+is_itself d (r ∷ rs) = d == r
+
+-- What sub and eor make their result from: both operands, but nothing where the second is the register d itself. Then the result
+-- is 0, Z is set and there is no borrow, whatever d held.
+abbrev pub unlike : ℕ → List ℕ → List ℕ
+unlike d bs = cond (is_itself d bs) [] (d ∷ bs)
+
 -- An operation on the register d and on bs, which is the other register or nothing. Where C is used, every place that is
 -- written comes from it too; the old Z is a source of Z alone, in sbc, sbci and cpc.
 abbrev pub binary_rows : BinaryOp → ℕ → List ℕ → List Row
@@ -63,10 +73,10 @@ binary_rows binary.Sbc d bs = row d (d ∷ (carry_place ∷ bs)) ∷ (row carry_
 binary_rows binary.Add d bs = with_flags d (d ∷ bs)
 binary_rows binary.Cpse d bs = []
 binary_rows binary.Cp d bs = flags_only (d ∷ bs)
-binary_rows binary.Sub d bs = with_flags d (d ∷ bs)
+binary_rows binary.Sub d bs = with_flags d (unlike d bs)
 binary_rows binary.Adc d bs = with_flags d (d ∷ (carry_place ∷ bs))
 binary_rows binary.And d bs = with_zero d (d ∷ bs)
-binary_rows binary.Eor d bs = with_zero d (d ∷ bs)
+binary_rows binary.Eor d bs = with_zero d (unlike d bs)
 binary_rows binary.Or d bs = with_zero d (d ∷ bs)
 binary_rows binary.Mov d bs = row d bs ∷ []
 binary_rows binary.Mul d bs = row 0 (d ∷ bs) ∷ (row 1 (d ∷ bs) ∷ flags_only (d ∷ bs))
@@ -118,6 +128,15 @@ rows_of (Branch f set k) = []
 rows_of Ret = []
 rows_of Clc = row carry_place [] ∷ []
 rows_of Nop = []
+
+-- the places that some rows write
+abbrev pub places_of : List Row → List ℕ
+places_of [] = []
+places_of (r ∷ rs) = r.place ∷ places_of rs
+
+-- the places that an instruction writes
+abbrev pub written_of : Instruction → List ℕ
+written_of i = places_of (rows_of i)
 
 -- the sources of a place in some rows, if one of them writes it
 abbrev pub lookup : ℕ → List Row → Option (List ℕ)

@@ -1,7 +1,7 @@
 //! The table of sources: the places that an instruction writes, and the places that each new value is made from.
 ghost use Rattle.std.specs.Prelude.{◌≡◌, ◌+◌, [], ◌∷◌};
 ghost use Rattle.std.specs.Option.{option_map, option_to_list};
-ghost use Rattle.avr.specs.Table.{row, lookup, flags_only, binary_rows, unary_rows, pair_rows, back_rows, load_row, store_row, origins_of, deciders_of};
+ghost use Rattle.avr.specs.Table.{row, lookup, unlike as unlike_of, flags_only, binary_rows, unary_rows, pair_rows, back_rows, load_row, store_row, origins_of, places_of, written_of, deciders_of};
 ghost use Rattle.avr.specs.Lists.{list_of};
 ghost use Rattle.avr.specs.Exact.{TableExact};
 
@@ -19,6 +19,18 @@ pub const ZERO: u16 = 33;
 /// The place of the whole memory.
 pub const MEMORY: u16 = 34;
 
+/// What sub and eor make their result from: both operands, but nothing where the second is the register d itself, since then the
+/// result is 0.
+fn unlike(d: u16, second: Option<u8>) -> Sources
+    ensures { list_of result ≡ unlike_of d (option_to_list second) }
+{
+    if second.map(u16::from) == Some(d) {
+        Sources::none()
+    } else {
+        listed(&[d], second)
+    }
+}
+
 /// What a place comes from in an operation on the register d and on a second register, or on a constant.
 fn binary(op: BinaryOp, d: u8, second: Option<u8>, place: u16) -> Option<Sources>
     ensures { option_map list_of result ≡ lookup place (binary_rows op d (option_to_list second)) }
@@ -26,13 +38,12 @@ fn binary(op: BinaryOp, d: u8, second: Option<u8>, place: u16) -> Option<Sources
     let d = u16::from(d);
     let flag = place == CARRY || place == ZERO;
     match op {
-        BinaryOp::Add | BinaryOp::Sub if place == d || flag => Some(listed(&[d], second)),
+        BinaryOp::Add if place == d || flag => Some(listed(&[d], second)),
+        BinaryOp::Sub if place == d || flag => Some(unlike(d, second)),
         BinaryOp::Cp if flag => Some(listed(&[d], second)),
         BinaryOp::Mul if place == 0 || place == 1 || flag => Some(listed(&[d], second)),
-        BinaryOp::And | BinaryOp::Eor | BinaryOp::Or if place == d || place == ZERO => Some(listed(
-            &[d],
-            second,
-        )),
+        BinaryOp::And | BinaryOp::Or if place == d || place == ZERO => Some(listed(&[d], second)),
+        BinaryOp::Eor if place == d || place == ZERO => Some(unlike(d, second)),
         BinaryOp::Adc if place == d || flag => Some(listed(&[d, CARRY], second)),
         BinaryOp::Sbc if place == d || place == CARRY => Some(listed(&[d, CARRY], second)),
         BinaryOp::Cpc if place == CARRY => Some(listed(&[d, CARRY], second)),
@@ -140,6 +151,64 @@ pub fn comes_from(instruction: Instruction, place: u16) -> Option<Sources>
     ensures exact { TableExact }
 {
     entry(instruction, place)
+}
+
+/// The places that an operation on the register d writes.
+fn written_by(op: BinaryOp, d: u8) -> Sources
+    ensures { list_of result ≡ places_of (binary_rows op d []) }
+{
+    let d = u16::from(d);
+    match op {
+        BinaryOp::Add | BinaryOp::Sub | BinaryOp::Adc | BinaryOp::Sbc => listed(
+            &[d, CARRY, ZERO],
+            None,
+        ),
+        BinaryOp::Cp | BinaryOp::Cpc => listed(&[CARRY, ZERO], None),
+        BinaryOp::And | BinaryOp::Eor | BinaryOp::Or => listed(&[d, ZERO], None),
+        BinaryOp::Mul => listed(&[0, 1, CARRY], Some(ZERO as u8)),
+        BinaryOp::Mov => listed(&[d], None),
+        BinaryOp::Cpse => Sources::none(),
+    }
+}
+
+/// A place, and the pair that a mode writes back.
+fn with_pointer(place: u16, mode: Mode) -> Sources
+    ensures { list_of result ≡ place ∷ places_of (back_rows mode) }
+{
+    match mode.written_back() {
+        None => listed(&[place], None),
+        Some(pointer) => listed(&[place, u16::from(pointer), u16::from(pointer) + 1], None),
+    }
+}
+
+/// The places that an instruction writes: those of its rows in the table.
+pub fn written(instruction: Instruction) -> Sources
+    ensures { list_of result ≡ written_of instruction }
+{
+    match instruction {
+        Instruction::Binary { op, d, .. } => written_by(op, d),
+        Instruction::Immediate { op, d, .. } => written_by(counterpart(op), d),
+        Instruction::Wide { d, .. } => listed(
+            &[u16::from(d), u16::from(d) + 1, CARRY],
+            Some(ZERO as u8),
+        ),
+        Instruction::Movw { d, .. } => listed(&[u16::from(d), u16::from(d) + 1], None),
+        Instruction::Unary {
+            op: UnaryOp::Inc | UnaryOp::Dec,
+            d,
+        } => listed(&[u16::from(d), ZERO], None),
+        Instruction::Unary { d, .. } => listed(&[u16::from(d), CARRY, ZERO], None),
+        Instruction::Load { mode, d } => with_pointer(u16::from(d), mode),
+        Instruction::Store { mode, .. } => with_pointer(MEMORY, mode),
+        Instruction::LoadDisplaced { d, .. } => listed(&[u16::from(d)], None),
+        Instruction::StoreDisplaced { .. } => listed(&[MEMORY], None),
+        Instruction::Clc => listed(&[CARRY], None),
+        Instruction::Nop
+        | Instruction::Ret
+        | Instruction::Rjmp { .. }
+        | Instruction::Rcall { .. }
+        | Instruction::Branch { .. } => Sources::none(),
+    }
 }
 
 /// The places that decide which way an instruction goes: none, unless it forks.

@@ -9,7 +9,7 @@ use Rattle.machine.specs.Calls.{run, put, ends, does, fresh, Answer}
 use Rattle.avr.specs.declared.location.Location.TheVariants.{Register}
 use Rattle.avr.specs.Chip.{avr}
 use Rattle.secrecy.specs.Rows.{place_columns, is_among}
-use Rattle.cases.specs.Cases.{Case, AllHold, word_cases, value_cases, run_cases, judge_cases, balanced, CasesStand}
+use Rattle.cases.specs.Cases.{Case, AllHold, word_cases, value_cases, run_cases, judge_cases, clearing_cases, balanced, CasesStand}
 
 words_hold : AllHold word_cases
 unfolding decode_of first
@@ -43,11 +43,16 @@ judges_hold : AllHold judge_cases
 unfolding decode_of first first_of place_columns is_among
 judges_hold = (refl, ((λ v l. ended_so 7 (answer_to v) (agree_below_at (λ n. ended 7 (answer_to n)) (λ n. true) 256 v always_seven l)), (refl, (refl, (refl, tt)))))
 
+clearing_hold : AllHold clearing_cases
+unfolding decode_of first first_of place_columns is_among
+clearing_hold = (refl, (refl, (refl, (refl, (refl, tt)))))
+
 append : (cs ds : List Case) → AllHold cs → AllHold ds → AllHold (cs ++ ds)
 append [] ds h k = k
 append (c ∷ cs) ds h k = (h.0, append cs ds h.1 k)
 
 pub cases_law : CasesStand
 cases_law =
-    append word_cases (value_cases ++ (run_cases ++ judge_cases)) words_hold
-    (append value_cases (run_cases ++ judge_cases) values_hold (append run_cases judge_cases runs_hold judges_hold))
+    append word_cases (value_cases ++ (run_cases ++ (judge_cases ++ clearing_cases))) words_hold
+    (append value_cases (run_cases ++ (judge_cases ++ clearing_cases)) values_hold
+    (append run_cases (judge_cases ++ clearing_cases) runs_hold (append judge_cases clearing_cases judges_hold clearing_hold)))

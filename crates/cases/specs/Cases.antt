@@ -155,9 +155,32 @@ judge_cases =
     ∷ (judged telling balanced_rows (chain 2) (refused (refusal 10 (2 ∷ (3 ∷ (18 ∷ [])))))
     ∷ []))))
 
+-- a word on r16, and then a branch by Z whose arms take different times
+abbrev pub cleared : ℕ → List ℕ
+cleared word = word ∷ (0xF009 ∷ (0x0000 ∷ (0x9508 ∷ [])))
+
+-- r16 is secret before the first word and never after; all else is 0
+abbrev pub cleared_rows : List ℕ
+cleared_rows = before ++ (row_of [] 0 0 0 ++ (row_of [] 0 0 0 ++ (row_of [] 0 0 0 ++ row_of [] 0 0 0)))
+
+-- an arm that clears r18, whose level stays 0
+abbrev pub clearing_inside : List ℕ
+clearing_inside = 0x3000 ∷ (0xF009 ∷ (0x2722 ∷ (0x9508 ∷ [])))
+
+-- A register that is cleared against itself comes from nothing: eor r16 r16 and sub r16 r16, but not sbc r16 r16, since the carry
+-- comes through, nor eor r16 r17. Inside a region it has the region level.
+abbrev pub clearing_cases : List Case
+clearing_cases =
+    judged (cleared 0x2700) cleared_rows (chain 2) fine
+    ∷ (judged (cleared 0x1B00) cleared_rows (chain 2) fine
+    ∷ (judged (cleared 0x0B00) cleared_rows (chain 2) (refused (refusal 10 (0 ∷ (1 ∷ (16 ∷ [])))))
+    ∷ (judged (cleared 0x2701) cleared_rows (chain 2) (refused (refusal 10 (0 ∷ (1 ∷ (16 ∷ [])))))
+    ∷ (judged clearing_inside balanced_rows (chain 2) (refused (refusal 10 (2 ∷ (3 ∷ (18 ∷ [])))))
+    ∷ []))))
+
 -- all rows
 abbrev pub table : List Case
-table = word_cases ++ (value_cases ++ (run_cases ++ judge_cases))
+table = word_cases ++ (value_cases ++ (run_cases ++ (judge_cases ++ clearing_cases)))
 
 -- every row of the table holds
 abbrev pub CasesStand : Type 0

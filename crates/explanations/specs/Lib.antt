@@ -1,1 +1,3 @@
+pub mod Choices
+pub mod Hints
 pub mod Views

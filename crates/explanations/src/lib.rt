@@ -4,8 +4,12 @@
 //! it works out besides the fault, as the cycles that a row would have to say, is pinned by the definitions of the rules.
 #![tactic(auto)]
 
+mod choices;
 mod facts;
+mod hints;
 mod refusal;
 mod texts;
 
+pub use hints::Hint;
 pub use refusal::Refusal;
+pub use texts::RowLabel;

@@ -1,14 +1,18 @@
 //! The texts of refusals.
 ghost use Rattle.std.specs.Prelude.{◌≡◌, length};
 
+use crate::choices::{Astray, ShapePart};
 use crate::refusal::Refusal;
-use avr::table::deciders;
+use avr::table::{comes_from, deciders};
 use judge::faults::{FlowFault, JudgeFault, RowFault};
 use notation::Assembly;
 use row_layout::{COLUMNS, Column, REGION};
 use std::fmt;
 use words::fault::WordFault;
-use words::instruction::Instruction;
+use words::route::Route;
+
+/// Where the next thought of an explanation begins: a line of its own, behind two blanks.
+const NEXT: &str = "\n  ";
 
 /// The name of the column that stands at an index of its row.
 #[derive(Clone, Copy)]
@@ -23,9 +27,9 @@ impl fmt::Display for ColumnName {
     }
 }
 
-/// A row of a routine by its number; the one behind those of all `len` words is the finish row.
+/// A row of a routine by its number, as text; the one behind those of all `len` words is the finish row.
 #[derive(Clone, Copy)]
-struct RowLabel {
+pub struct RowLabel {
     row: u32,
     len: usize,
 }
@@ -54,8 +58,8 @@ impl fmt::Display for Refusal<'_> {
 }
 
 impl Refusal<'_> {
-    /// A row by its number.
-    fn label(&self, row: u32) -> RowLabel
+    /// A row by its number, as text.
+    pub fn label(&self, row: u32) -> RowLabel
         ensures { (result.row ≡ row) × (result.len ≡ length self.now.routine.words.now) }
     {
         RowLabel {
@@ -104,8 +108,9 @@ impl Refusal<'_> {
                 let code = self.routine.rows.cell(u32::from(row), column);
                 write!(
                     f,
-                    " at row {row}, column {column}: {label} says {name}={code}, and the order holds no code {code}; write one that it holds"
-                )
+                    " at row {row}, column {column}: {label} says {name}={code}, and the order holds no code {code}"
+                )?;
+                write!(f, "{NEXT}write one that it holds")
             }
             RowFault::Shape { row } => {
                 write!(f, " at row {row}: ")?;
@@ -120,31 +125,24 @@ impl Refusal<'_> {
         let len = self.routine.words.len();
         let join = self.join(row);
         let function = self.routine.rows.function(row);
-        if usize::from(at) == len {
-            return f.write_str(
+        match self.broken_part(at) {
+            ShapePart::Finish => f.write_str(
                 "it is the finish row, whose region, join, remaining and function must be 0",
-            );
-        }
-        if self.routine.rows.remaining(row) == 0
-            && (self.routine.rows.region(row) != 0 || join != 0)
-        {
-            return f.write_str(
-                "remaining is 0, so region and join must be 0 too; or write the remaining cycles of the region",
-            );
-        }
-        if self.routine.rows.remaining(row) != 0 && usize::from(join) >= len {
-            return write!(
+            ),
+            ShapePart::Outside => {
+                f.write_str("remaining is 0, so region and join must be 0 too")?;
+                write!(f, "{NEXT}or write the remaining cycles of the region")
+            }
+            ShapePart::Join => write!(
                 f,
                 "join is {join}, and must be the address of one of the {len} words"
-            );
-        }
-        if usize::from(function) >= len {
-            return write!(
+            ),
+            ShapePart::Function => write!(
                 f,
                 "function is {function}, and must be the address of one of the {len} words"
-            );
+            ),
+            ShapePart::Beginning => write!(f, "function is {function}, and must be 0 in row 0"),
         }
-        write!(f, "function is {function}, and must be 0 in row 0")
     }
 
     /// What is wrong with where a word leads, or with levels along the way.
@@ -168,52 +166,103 @@ impl Refusal<'_> {
         let remaining = self.routine.rows.remaining(u32::from(at));
         write!(
             f,
-            " at {at}: {word} stands inside a region, since row {at} has remaining={remaining}; a call or a return must stand outside, so end the region before it"
+            " at {at}: {word} stands inside a region, since row {at} has remaining={remaining}"
+        )?;
+        write!(
+            f,
+            "{NEXT}a call or a return must stand outside, so end the region before it"
         )
     }
 
     /// A word that leads out of the listing or of its function.
     fn explain_bounds<W: fmt::Write>(&self, f: &mut fmt::Formatter<W>, at: u16) -> fmt::Result {
         let word = Assembly(self.routine.instruction(at));
-        let function = self.routine.rows.function(u32::from(at));
         let len = self.routine.words.len();
-        write!(
-            f,
-            " at {at}: {word} leads out of the {len} words or out of function {function}, which row {at} names; what comes next must be one of the words and have the same function in its row, and what is called must have its own address there"
-        )
+        let own = self.routine.rows.function(u32::from(at));
+        match self.astray(at) {
+            Astray::Outside(to) => {
+                // An address before the first word is written as what is left of it in 32 bits, which says nothing.
+                if to > u32::from(u16::MAX) {
+                    write!(f, " at {at}: {word} leads out of the {len} words")?;
+                } else {
+                    write!(f, " at {at}: {word} leads to {to}, out of the {len} words")?;
+                }
+                write!(f, "{NEXT}end each function with ret")
+            }
+            Astray::OtherFunction(to) => {
+                let other = self.routine.rows.function(to);
+                write!(
+                    f,
+                    " at {at}: {word} leads to {to}, whose row says function={other}, and row {at} says function={own}"
+                )?;
+                write!(
+                    f,
+                    "{NEXT}give all rows of a function the address of its first word"
+                )
+            }
+            Astray::NotFirst(into) => {
+                let other = self.routine.rows.function(into);
+                write!(
+                    f,
+                    " at {at}: {word} calls {into}, whose row says function={other}"
+                )?;
+                write!(
+                    f,
+                    "{NEXT}what is called is the first word of its function: row {into} should say function={into}"
+                )
+            }
+        }
     }
 
     /// A decision by a secret, outside every region.
     fn explain_deciding<W: fmt::Write>(&self, f: &mut fmt::Formatter<W>, at: u16) -> fmt::Result {
         let instruction = self.routine.instruction(at);
         let word = Assembly(instruction);
+        let row = u32::from(at);
+        let decided_by = deciders(instruction);
         write!(f, " at {at}: {word} decides by ")?;
-        self.write_deciding(f, at, instruction)?;
+        self.write_levels(f, row, decided_by.as_slice())?;
+        write!(f, " in row {at}, which is outside every region")?;
         write!(
             f,
-            " in row {at}, which is outside every region; give row {at} its join and remaining, and the rows of both arms their region, join and remaining, or decide by what is public"
-        )
+            "{NEXT}give row {at} join, where both arms come together, and remaining, the cycles until then"
+        )?;
+        write!(
+            f,
+            "{NEXT}give the rows of both arms that join, what remains there, and a region to which "
+        )?;
+        self.write_levels(f, row, decided_by.as_slice())?;
+        write!(f, " may flow{NEXT}or decide by what is public")
     }
 
-    /// The places that a word decides by, with their levels.
-    fn write_deciding<W: fmt::Write>(
+    /// Some places of a row with their levels.
+    fn write_levels<W: fmt::Write>(
         &self,
         f: &mut fmt::Formatter<W>,
-        at: u16,
-        instruction: Instruction,
+        row: u32,
+        places: &[u16],
     ) -> fmt::Result {
-        let row = u32::from(at);
-        match deciders(instruction).as_slice() {
+        match places {
             [] => f.write_str("nothing"),
             [first, others @ ..] => {
                 self.write_level(f, row, *first)?;
-                for place in others {
-                    f.write_str(" and ")?;
-                    self.write_level(f, row, *place)?;
-                }
-                Ok(())
+                self.write_further(f, row, others)
             }
         }
+    }
+
+    /// Further places of a row with their levels.
+    fn write_further<W: fmt::Write>(
+        &self,
+        f: &mut fmt::Formatter<W>,
+        row: u32,
+        places: &[u16],
+    ) -> fmt::Result {
+        for place in places {
+            f.write_str(" and ")?;
+            self.write_level(f, row, *place)?;
+        }
+        Ok(())
     }
 
     /// A number of a row, as routine files write it.
@@ -236,20 +285,62 @@ impl Refusal<'_> {
         next: u32,
     ) -> fmt::Result {
         let word = Assembly(self.routine.instruction(at));
+        let row = u32::from(at);
         let cycles = self.cycles(at, next);
         let label = self.label(next);
-        let left = self.routine.rows.remaining(next);
-        let due_join = self.due_join(next);
-        let due_cycles = self.due_cycles(at, next);
-        let join = self.join(u32::from(at));
-        let remaining = self.routine.rows.remaining(u32::from(at));
+        let join = self.join(row);
+        let left = self.routine.rows.remaining(row);
+        let next_join = self.join(next);
+        let next_left = self.routine.rows.remaining(next);
         write!(
             f,
-            " at {at}, next {next}: {word} takes {cycles} of the cycles that remain on its way to {next}, and {label} says remaining={left}; "
+            " at {at}, next {next}: {word} is not in time on its way to {next}, which takes {cycles}"
         )?;
         write!(
             f,
-            "so row {at} would have to say join={due_join} remaining={due_cycles}, and says join={join} remaining={remaining}: make all ways to the join address equally long"
+            "{NEXT}row {at} says join={join} remaining={left}, and {label} says join={next_join} remaining={next_left}"
+        )?;
+        self.write_hint(f, at, next)?;
+        write!(f, "{NEXT}all ways to the join address must be equally long")
+    }
+
+    /// What a row should say so that a way is in time.
+    fn write_hint<W: fmt::Write>(
+        &self,
+        f: &mut fmt::Formatter<W>,
+        at: u16,
+        next: u32,
+    ) -> fmt::Result {
+        let Some(hint) = self.hint() else {
+            return write!(
+                f,
+                "{NEXT}a word that leads to itself cannot stand inside a region"
+            );
+        };
+        let label = self.label(hint.row);
+        let join = hint.join;
+        let remaining = hint.remaining;
+        if hint.row != next {
+            return write!(
+                f,
+                "{NEXT}{label} should say join={join} remaining={remaining}"
+            );
+        }
+        if self.routine.rows.remaining(next) == 0 {
+            return write!(
+                f,
+                "{NEXT}{label} lacks its region: it should say join={join} remaining={remaining}, and a region level"
+            );
+        }
+        let due_join = self.due_join(next);
+        let due_cycles = self.due_cycles(at, next);
+        write!(
+            f,
+            "{NEXT}{label} should say join={join} remaining={remaining}, if row {at} is right"
+        )?;
+        write!(
+            f,
+            "{NEXT}row {at} should say join={due_join} remaining={due_cycles}, if {label} is right"
         )
     }
 
@@ -261,19 +352,51 @@ impl Refusal<'_> {
         next: u32,
         place: u16,
     ) -> fmt::Result {
-        let word = Assembly(self.routine.instruction(at));
+        let instruction = self.routine.instruction(at);
+        let word = Assembly(instruction);
+        let row = u32::from(at);
         let label = self.label(next);
         let name = ColumnName(place);
         let level = self.routine.rows.cell(next, place);
+        let region = self.routine.rows.region(row);
+        write!(f, " at {at}, next {next}, place {place}: ")?;
         if place == REGION {
+            write!(
+                f,
+                "that {word} leads to {next} is more secret than region={level}, as {label} has it"
+            )?;
+            write!(f, "{NEXT}it is told by region={region}")?;
+            self.write_further(f, row, deciders(instruction).as_slice())?;
             return write!(
                 f,
-                " at {at}, next {next}, place {place}: that control comes from {word} to {next} is more secret than {label} says, which has region={level}; raise region in {label}"
+                " of row {at}{NEXT}raise region in {label} to a level to which each of these may flow"
             );
         }
         write!(
             f,
-            " at {at}, next {next}, place {place}: after {word} the level of {name} may not flow to {level}, as {label} has it; raise {name} in {label}, or keep {name} clear of what is secret at {at}"
-        )
+            "after {word} the level of {name} may not flow to {level}, as {label} has it{NEXT}"
+        )?;
+        match comes_from(instruction, place) {
+            Some(sources) => {
+                write!(f, "{name} comes from region={region}")?;
+                self.write_further(f, row, sources.as_slice())?;
+            }
+            None => {
+                write!(f, "{word} leaves {name} alone, which has ")?;
+                self.write_level(f, row, place)?;
+            }
+        }
+        write!(
+            f,
+            " of row {at}{NEXT}raise {name} in {label} to a level to which each of these may flow, or keep {name} clear of secrets"
+        )?;
+        if matches!(instruction.route(at), Route::Return) {
+            let function = self.routine.rows.function(row);
+            write!(
+                f,
+                "{NEXT}row {at} serves all callers of function {function}: the row behind each call must have what it has"
+            )?;
+        }
+        Ok(())
     }
 }

@@ -1,4 +1,5 @@
 pub mod Checks
 pub mod Joins
+pub mod Kept
 pub mod Placed
 pub mod Refused

@@ -1,22 +1,29 @@
 -- Where the judgement refuses, everything is as the refusal says.
-use Rattle.std.proofs.Common.{◌≡◌, ℕ, ◌≤◌, Bool, true, false, ◌&&◌, nat_le, List, [], ◌∷◌, length, is_some, slice_index, ⊎_elim, subst, arith}
+use Rattle.std.proofs.Common.{◌≡◌, ℕ, ◌≤◌, Bool, true, false, ◌&&◌, nat_le, List, [], ◌∷◌, length, is_some, slice_index, ⊎_elim, refl, subst, arith}
 use Rattle.std.proofs.lemmas.Bool.Decides.{nat_tests}
-use Rattle.verdicts.specs.Verdict.{Refusal, refused, fine, rule, first}
-use Rattle.verdicts.proofs.Firsts.{and_fine, then_broken, rule_broken, first_named, first_each}
+use Rattle.verdicts.specs.Verdict.{Refusal, refused, refusal, fine, rule, first}
+use Rattle.verdicts.proofs.Firsts.{and_fine, then-on, then_stop, then_broken, rule_met, rule_broken, first_stop, first_named, first_each, each_first}
 use Rattle.words.specs.Decode.{decode_of}
-use Rattle.words.specs.Legal.{decodes_at, length_of, legal_of}
+use Rattle.words.specs.Legal.{Decodes, decodes_at, length_of, legal_of}
 use Rattle.levels.specs.Order.{Meaning}
 use Rattle.avr.specs.Chip.{avr}
 use Rattle.secrecy.specs.Rules.{rules_of}
-use Rattle.secrecy.proofs.Refused.{refused_by as rows_refused_by}
+use Rattle.secrecy.proofs.Refused.{refused_by as rows_refused_by, broken_rule}
 use Rattle.judge.specs.Judgement.{judgement_of}
-use Rattle.judge.specs.Refused.{RefusedBy, unsized, undecodable, of_rows}
+use Rattle.judge.specs.Refused.{Sized, RefusedBy, unsized, undecodable, of_rows}
 
 sized_by : (n : ℕ) → (nat_le 1 n && nat_le n 1024) ≡ true → (1 ≤ n) × (n ≤ 1024)
 sized_by n e = grind (arith, nat_tests)
 
 unsized_by : (n : ℕ) → (nat_le 1 n && nat_le n 1024) ≡ false → (1 ≤ n) × (n ≤ 1024) → ⊥
 unsized_by n e h = grind (arith, nat_tests)
+
+size_by : (n : ℕ) → (1 ≤ n) × (n ≤ 1024) → (nat_le 1 n && nat_le n 1024) ≡ true
+size_by n h = grind (arith, nat_tests)
+
+unsized_rule : {P : Type 0} (t : Bool) → (t ≡ true → P) → (P → ⊥) → rule t 1 [] ≡ refused (refusal 1 [])
+unsized_rule true given wrong = absurd (wrong (given refl))
+unsized_rule false given wrong = refl
 
 kept : (t : Bool) (n : ℕ) (vs : List ℕ) → rule t n vs ≡ fine → t ≡ true
 kept t n vs e = grind arith
@@ -39,5 +46,16 @@ module _ (m : Meaning) (ws rows : List ℕ) where
       ⊎_elim
       (of_words r)
       (λ h. let both = and_fine (length_of ws) (first (decodes_at ws) (length ws)) h.0 in
-      of_rows r (sized_by (length ws) (kept _ 1 [] both.0), λ k l. decoded k (first_each (decodes_at ws) (length ws) both.1 k l)) (rows_refused_by m (avr ws) rows r h.1))
+      of_rows r (sized_by (length ws) (kept _ 1 [] both.0), λ k l. decoded k (first_each (decodes_at ws) (length ws) both.1 k l)) ((rows_refused_by m (avr ws) rows r).0 h.1))
       (then_broken (legal_of ws) (rules_of m (avr ws) rows) r e)
+
+  listed : Sized ws → Decodes ws → legal_of ws ≡ fine
+  listed sized decodes = then-on (length_of ws) _ _ (rule_met _ 1 [] (size_by (length ws) sized)) (each_first (decodes_at ws) (length ws) (λ k less. rule_met _ 2 _ (decodes k less)))
+
+  -- and back: what a refusal says makes the judgement refuse by it
+  pub refuses_by : (r : Refusal) → RefusedBy m ws rows r → judgement_of m ws rows ≡ refused r
+  refuses_by r (unsized wrong) = then_stop (legal_of ws) _ _ (then_stop (length_of ws) _ _ (unsized_rule (nat_le 1 (length ws) && nat_le (length ws) 1024) (sized_by (length ws)) wrong))
+  refuses_by r (undecodable at sized l before wrong) =
+      then_stop (legal_of ws) _ _ (then-on (length_of ws) _ _ (rule_met _ 1 [] (size_by (length ws) sized))
+      (first_stop (decodes_at ws) at (length ws) _ (each_first (decodes_at ws) at (λ k less. rule_met _ 2 _ (before k less))) (broken_rule _ 2 _ wrong) l))
+  refuses_by r (of_rows r' words names) = then-on (legal_of ws) _ _ (listed words.0 words.1) ((rows_refused_by m (avr ws) rows r').1 names)

@@ -3,6 +3,7 @@ use Rattle.std.specs.Prelude.{ℕ, ◌||◌, Bool}
 use Rattle.verdicts.specs.Verdict.{Verdict, and_then, first, first_of}
 use Rattle.levels.specs.Order.{Meaning}
 use Rattle.secrecy.specs.Rows.{place_columns, level_columns}
+use Rattle.secrecy.specs.Flow.{level_after}
 use Rattle.secrecy.specs.Rules as rules
 use Rattle.row_layout.specs.declared.routine.RoutineView.{RoutineView}
 use Rattle.row_layout.specs.Views.{rows_in, chip}
@@ -35,6 +36,10 @@ module _ (m : Meaning) (routine : RoutineView) where
   -- on the levels of places along the edge from a to b
   abbrev pub places_verdict : ℕ → ℕ → Verdict
   places_verdict a b = first_of (rules.flow_rule m (chip routine) (rows_in routine.rows) a b) place_columns
+
+  -- whether the level of a place flows along the edge
+  abbrev pub flows_along : ℕ → ℕ → ℕ → Bool
+  flows_along a b p = m.flows (level_after m (chip routine) (rows_in routine.rows) a p) ((rows_in routine.rows).level b p)
 
   -- on its region level
   abbrev pub region_verdict : ℕ → ℕ → Verdict

@@ -1,12 +1,12 @@
 //! The judgement itself.
-ghost use Rattle.std.specs.Prelude.{◌≡◌, length, Ok, IfErr};
+ghost use Rattle.std.specs.Prelude.{◌≡◌, length, Ok};
 ghost use Rattle.verdicts.specs.Verdict.{says};
 ghost use Rattle.avr.specs.Chip.{avr};
 ghost use Rattle.secrecy.specs.Rows.{rows_of};
 ghost use Rattle.secrecy.specs.Hiding.{Hides};
 ghost use Rattle.judge.specs.Faults.{judge_refusal};
 ghost use Rattle.judge.specs.Judgement.{judgement_of, Exactly};
-ghost use Rattle.judge.specs.Refused.{RefusedBy};
+ghost use Rattle.judge.specs.Refused.{RefusesExactly};
 
 use crate::faults::JudgeFault;
 use crate::judgement::Judgement;
@@ -27,14 +27,14 @@ fn find_fault<O: Order>(words: &[u16], rows: &[u16], order: &O) -> Result<(), Ju
 
 /// Judges a routine: its words, the numbers of its rows, and the order that their levels are of. Anything may be passed.
 ///
-/// The answer is the first rule that is broken, or acceptance: where words and rows keep all rules, and only there. Where a rule
-/// is named, it is broken, and everything that comes before it is right. What is
-/// accepted hides every secret: to an observer of any level, two boards that differ only in what the observer may not see
-/// answer all calls alike, cycle counts among them, and all ways through a region take the cycles that its rows say.
+/// The answer is the first rule that is broken, or acceptance: where words and rows keep all rules, and only there. A rule is
+/// named where it is broken and everything that comes before it is right. What is accepted hides every secret: to an observer of
+/// any level, two boards that differ only in what the observer may not see answer all calls alike, cycle counts among them, and
+/// all ways through a region take the cycles that its rows say.
 pub fn judge<O: Order>(words: &[u16], rows: &[u16], order: &O) -> Result<(), JudgeFault>
     ensures answer { says judge_refusal result ≡ judgement_of (O.Order.meaning order.now) words.now rows.now }
     ensures accepts { Exactly (O.Order.meaning order.now) words.now rows.now result }
-    ensures refuses { IfErr result (λ fault. RefusedBy (O.Order.meaning order.now) words.now rows.now (judge_refusal fault)) }
+    ensures refuses { RefusesExactly (O.Order.meaning order.now) words.now rows.now result }
     ensures hides { result ≡ Ok tt → Hides (O.Order.meaning order.now) (avr words.now) (rows_of (length words.now) rows.now) }
 {
     find_fault(words, rows, order)

@@ -11,3 +11,9 @@ pub mod Both
 pub mod Parts
 pub mod Squares
 pub mod Everys
+pub mod Ranks
+pub mod ChainRanks
+pub mod UnionRanks
+pub mod CountedRanks
+pub mod TableRanks
+pub mod PairRanks

@@ -3,10 +3,13 @@ ghost use Rattle.std.specs.Prelude.{◌≡◌, ◌≤◌};
 ghost use Rattle.verdicts.specs.Verdict.{outcome, making};
 ghost use Rattle.levels.specs.Faults.{refusal_of, sized};
 ghost use Rattle.levels.specs.Chains.{chain};
+ghost use Rattle.levels.specs.Ranks.{chain_rank};
+ghost use Rattle.levels.specs.ChainRanks.{chain_ranks};
 ghost use Rattle.std.proofs.Common.{rules, arith};
 
 use crate::fault::OrderFault;
 use crate::order::Order;
+use crate::ranked::Ranked;
 
 /// Levels 0 to `levels` - 1, each of which flows to itself and to the larger ones.
 #[derive(Clone, Copy)]
@@ -53,5 +56,15 @@ impl Order for Chain {
         } else {
             0
         }
+    }
+}
+
+impl Ranked for Chain {
+    ghost rank_of = { λ o. chain_rank o.levels };
+
+    ghost ranked = { λ o. chain_ranks o.levels o.size.1 };
+
+    fn rank(&self, code: u16) -> u16 {
+        if self.holds(code) { code } else { 0 }
     }
 }

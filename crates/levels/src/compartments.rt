@@ -4,9 +4,12 @@ ghost use Rattle.verdicts.specs.Verdict.{outcome, making};
 ghost use Rattle.levels.specs.Faults.{refusal_of, sized};
 ghost use Rattle.levels.specs.Compartments.{compartments};
 ghost use Rattle.levels.specs.Unions.{union_laws};
+ghost use Rattle.levels.specs.Ranks.{compartments_rank};
+ghost use Rattle.levels.specs.UnionRanks.{union_ranks};
 
 use crate::fault::OrderFault;
 use crate::order::Order;
+use crate::ranked::Ranked;
 
 /// Each level is a set of compartments, one bit for each of `bits`.
 #[derive(Clone, Copy)]
@@ -53,5 +56,18 @@ impl Order for Compartments {
         } else {
             0
         }
+    }
+}
+
+impl Ranked for Compartments {
+    ghost rank_of = { λ o. compartments_rank o.bits };
+
+    ghost ranked = { λ o. union_ranks o.bits o.size.1 };
+
+    fn rank(&self, code: u16) -> u16 {
+        if !self.holds(code) {
+            return 0;
+        }
+        code.count_ones() as u16
     }
 }

@@ -1,4 +1,5 @@
-//! Orders of secrecy levels: the trait that anyone may implement, with the laws that each implementation owes, and four orders.
+//! Orders of secrecy levels: the trait that anyone may implement, with the laws that each implementation owes, four orders,
+//! and ranks of their levels.
 //!
 //! It may use the definitions of verdicts. It knows nothing of words, of boards or of what has a level.
 #![tactic(auto)]
@@ -8,4 +9,5 @@ pub mod compartments;
 pub mod fault;
 pub mod order;
 pub mod pair;
+pub mod ranked;
 pub mod table;

@@ -6,9 +6,12 @@ ghost use Rattle.levels.specs.Faults.{refusal_of};
 ghost use Rattle.levels.specs.Tables.{table, join_in, semilattice, filling, Fits};
 ghost use Rattle.std.proofs.Common.{arith};
 ghost use Rattle.levels.specs.Squares.{test_laws};
+ghost use Rattle.levels.specs.Ranks.{counted_rank};
+ghost use Rattle.levels.specs.TableRanks.{table_ranks};
 
 use crate::fault::OrderFault;
 use crate::order::Order;
+use crate::ranked::Ranked;
 use crate::table::square::Square;
 
 mod square;
@@ -107,5 +110,16 @@ impl Order for Table {
         } else {
             0
         }
+    }
+}
+
+impl Ranked for Table {
+    ghost rank_of = { λ o. counted_rank (table o.levels o.joins) o.levels };
+
+    ghost ranked = { λ o. table_ranks o.levels o.joins o.size.0 o.size.1 o.sound };
+
+    fn rank(&self, code: u16) -> u16 {
+        let flows_strictly = |other: &u16| self.flows(*other, code) && *other != code;
+        (0..u16::from(self.levels)).filter(flows_strictly).count() as u16
     }
 }

@@ -1,6 +1,6 @@
 //! Reads routine files that are malformed, one for each thing that can be wrong with a file, and prints what is said of each.
 //!
-//! The program `dulkyamo` says the same on standard error and ends with status 1, which a run in the gate may not: so the texts
+//! The program `dulkyamo` says the same on standard error, which a run in the gate does not compare: so the texts
 //! are tested here. It stands on `routine` alone, and carries nothing out.
 #![tactic(auto)]
 

@@ -3,6 +3,9 @@
 //! It may use the words alone. What is printed is tested, by the vectors, and not proved: a contract cannot speak of a width.
 #![tactic(auto)]
 
+mod foreign;
+
+pub use foreign::{Foreign, Mnemonic};
 use std::fmt;
 use words::instruction::{Base, BinaryOp, Flag, ImmediateOp, Instruction, Mode, UnaryOp, WideOp};
 

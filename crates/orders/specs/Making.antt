@@ -1,4 +1,5 @@
 -- What making an order comes to, by how it is written. Assumes nothing.
+use Rattle.std.specs.Prelude.{ℕ}
 use Rattle.verdicts.specs.Verdict.{Outcome, made, unmade, making}
 use Rattle.levels.specs.Order.{Meaning}
 use Rattle.levels.specs.Faults.{sized}
@@ -6,7 +7,8 @@ use Rattle.levels.specs.Chains as chains
 use Rattle.levels.specs.Compartments as compartments
 use Rattle.levels.specs.Tables as tables
 use Rattle.levels.specs.Pairs as pairs
-use Rattle.orders.specs.Simples.{meaning_of}
+use Rattle.levels.specs.Ranks.{pair_rank}
+use Rattle.orders.specs.Simples.{meaning_of, simple_rank}
 use Rattle.orders.specs.declared.making.Made.{Made}
 use Rattle.orders.specs.declared.making.Made.TheVariants as built
 use Rattle.orders.specs.Written.{Form, Written, chain, compartments, table, one, pair}
@@ -32,3 +34,8 @@ making_written (pair first second) = both (making_of first) (making_of second)
 abbrev pub made_meaning : Made → Meaning
 made_meaning (built.Simple o) = meaning_of o
 made_meaning (built.Pair o) = pairs.pair (meaning_of o.first) (meaning_of o.second)
+
+-- and the ranks of its levels
+abbrev pub made_rank : Made → ℕ → ℕ
+made_rank (built.Simple o) = simple_rank o
+made_rank (built.Pair o) = pair_rank (meaning_of o.first) (meaning_of o.second) (simple_rank o.first) (simple_rank o.second)

@@ -4,16 +4,18 @@ ghost use Rattle.verdicts.specs.Verdict.{outcome};
 ghost use Rattle.levels.specs.Faults.{refusal_of};
 ghost use Rattle.orders.specs.Simples.{meaning_of};
 ghost use Rattle.orders.specs.Written.{form_of, written_of};
-ghost use Rattle.orders.specs.Making.{making_of, making_written, made_meaning};
+ghost use Rattle.orders.specs.Making.{making_of, making_written, made_meaning, made_rank};
 ghost use Rattle.orders.specs.declared.making.Made.TheVariants.{Simple, Pair};
 ghost use Rattle.levels.specs.Parts.{pair_laws};
-ghost use Rattle.orders.specs.Lawful.{simple_laws};
+ghost use Rattle.levels.specs.PairRanks.{pair_ranks};
+ghost use Rattle.orders.specs.Lawful.{simple_laws, simple_ranks};
 
 use crate::simple::Simple;
 use crate::written::{OrderText, SimpleText};
 use levels::fault::OrderFault;
 use levels::order::Order;
 use levels::pair::Pair;
+use levels::ranked::Ranked;
 
 /// An order that was made.
 #[derive(Drop)]
@@ -50,6 +52,22 @@ impl Order for Made {
         match self {
             Made::Simple(order) => order.join(a, b),
             Made::Pair(order) => order.join(a, b),
+        }
+    }
+}
+
+impl Ranked for Made {
+    ghost rank_of = { made_rank };
+
+    ghost ranked = { elim [
+      | Simple o ↦ simple_ranks o
+      | Pair o ↦ pair_ranks _ _ (simple_laws o.first) (simple_laws o.second) _ _ (simple_ranks o.first) (simple_ranks o.second)
+    ] };
+
+    fn rank(&self, code: u16) -> u16 {
+        match self {
+            Made::Simple(order) => order.rank(code),
+            Made::Pair(order) => order.rank(code),
         }
     }
 }

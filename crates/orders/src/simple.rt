@@ -5,13 +5,14 @@ ghost use Rattle.levels.specs.Faults.{refusal_of, sized};
 ghost use Rattle.levels.specs.Chains.{chain};
 ghost use Rattle.levels.specs.Compartments.{compartments};
 ghost use Rattle.levels.specs.Tables.{table, filling};
-ghost use Rattle.orders.specs.Simples.{meaning_of};
-ghost use Rattle.orders.specs.Lawful.{simple_laws};
+ghost use Rattle.orders.specs.Simples.{meaning_of, simple_rank};
+ghost use Rattle.orders.specs.Lawful.{simple_laws, simple_ranks};
 
 use levels::chain::Chain;
 use levels::compartments::Compartments;
 use levels::fault::OrderFault;
 use levels::order::Order;
+use levels::ranked::Ranked;
 use levels::table::Table;
 
 /// An order of one of the kinds that are not made of others.
@@ -95,6 +96,20 @@ impl Order for Simple {
             Simple::Chain(order) => order.join(a, b),
             Simple::Compartments(order) => order.join(a, b),
             Simple::Table(order) => order.join(a, b),
+        }
+    }
+}
+
+impl Ranked for Simple {
+    ghost rank_of = { simple_rank };
+
+    ghost ranked = { simple_ranks };
+
+    fn rank(&self, code: u16) -> u16 {
+        match self {
+            Simple::Chain(order) => order.rank(code),
+            Simple::Compartments(order) => order.rank(code),
+            Simple::Table(order) => order.rank(code),
         }
     }
 }

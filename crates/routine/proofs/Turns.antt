@@ -15,16 +15,16 @@ module _ (n : ℕ) (lines : List (List ℕ)) (d : Draft) where
   lines_none none = grind arith
 
   module _ (line : List ℕ) (rest : List (List ℕ)) (split : lines ≡ line ∷ rest) where
-    pub lines_more : (e : Draft) → after_line d line ≡ Ok e → lines_from n lines d ≡ lines_from (n + 1) rest e
+    pub lines_more : (e : Draft) → after_line n d line ≡ Ok e → lines_from n lines d ≡ lines_from (n + 1) rest e
     unfolding lines_from
     lines_more e read = grind arith
 
-    pub lines_wrong : (wrong : Malformed) → after_line d line ≡ Err wrong → lines_from n lines d ≡ Err (n, wrong)
+    pub lines_wrong : (wrong : Malformed) → after_line n d line ≡ Err wrong → lines_from n lines d ≡ Err (n, wrong)
     unfolding lines_from
     lines_wrong wrong read = grind arith
 
     -- what is blamed at a line is blamed in the file, with the number of the line
-    pub lines_blamed : (f : FileFault) → f.line ≡ n → Blames (λ m. m) f.fault (after_line d line) → Blames (λ m. (f.line, m)) f.fault (lines_from n lines d)
+    pub lines_blamed : (f : FileFault) → f.line ≡ n → Blames (λ m. m) f.fault (after_line n d line) → Blames (λ m. (f.line, m)) f.fault (lines_from n lines d)
     lines_blamed f here read = grind (arith, lines_wrong)
 
 -- the answer of a line, with the number of the line where it is a fault

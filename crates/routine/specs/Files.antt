@@ -13,9 +13,9 @@ use Rattle.routine.specs.Routines.{Draft, nothing, stepped}
 abbrev pub Given : Type 0
 Given = Result Draft (ℕ × Malformed)
 
--- what a line makes of a routine
-abbrev pub after_line : Draft → List ℕ → Result Draft Malformed
-after_line d line = stepped d (line_of (tokens_of line))
+-- what line number n makes of a routine
+abbrev pub after_line : ℕ → Draft → List ℕ → Result Draft Malformed
+after_line n d line = stepped n d (line_of (tokens_of line))
 
 -- reading goes on only where nothing was wrong; else the number of the line is told
 abbrev pub goes_on : ℕ → Result Draft Malformed → (Draft → Given) → Given
@@ -25,7 +25,7 @@ goes_on n (Err m) next = Err (n, m)
 -- what lines make of a routine, the first of them having number n
 unfoldable pub lines_from : ℕ → List (List ℕ) → Draft → Given
 lines_from n [] d = Ok d
-lines_from n (line ∷ lines) d = goes_on n (after_line d line) (lines_from (n + 1) lines)
+lines_from n (line ∷ lines) d = goes_on n (after_line n d line) (lines_from (n + 1) lines)
 
 -- a file whose lines give no word lacks them at its end
 abbrev pub words_in : ℕ → Draft → List ℕ → Given

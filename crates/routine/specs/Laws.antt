@@ -17,7 +17,7 @@ pub record Gathers {X Y E : Type 0} (reads : X → Result Y E) : Type 0 where
 pub record LinesInTurn : Type 0 where
   pub onward : (n : ℕ) (lines more : List (List ℕ)) (d e : Draft) → lines_from n lines d ≡ Ok e → lines_from n (lines ++ more) d ≡ lines_from (n + length lines) more e
   pub first : (n : ℕ) (lines : List (List ℕ)) (bad : List ℕ) (more : List (List ℕ)) (d e : Draft) (wrong : Malformed) → lines_from n lines d ≡ Ok e →
-      after_line e bad ≡ Err wrong → lines_from n (lines ++ bad ∷ more) d ≡ Err (n + length lines, wrong)
+      after_line (n + length lines) e bad ≡ Err wrong → lines_from n (lines ++ bad ∷ more) d ≡ Err (n + length lines, wrong)
 
 -- words, bytes and lines are read in this way
 pub record ReadingStands : Type 0 where

@@ -3,6 +3,7 @@ pub mod Gathered
 pub mod Operands
 pub mod Orders
 pub mod Steps
+pub mod Stretches
 pub mod Rows
 pub mod Statements
 pub mod Routines

@@ -39,7 +39,7 @@ fn read_lines(heap: Global, file: &[u8], routine: &mut Routine) -> Result<(), Fi
 {
     for (before, line) in Lines::new(file).enumerate() {
         let number = before + 1;
-        read_line(heap, line, routine).map_err(|fault| FileFault {
+        read_line(heap, number, line, routine).map_err(|fault| FileFault {
             line: number,
             fault,
         })?;
@@ -47,12 +47,17 @@ fn read_lines(heap: Global, file: &[u8], routine: &mut Routine) -> Result<(), Fi
     Ok(())
 }
 
-/// Reads a line.
-fn read_line(heap: Global, line: Line<'_>, routine: &mut Routine) -> Result<(), Fault>
-    ensures { Makes result routine.old routine.new (λ d. after_line d (line_left line.entry)) }
+/// Reads the line of a number.
+fn read_line(
+    heap: Global,
+    number: usize,
+    line: Line<'_>,
+    routine: &mut Routine,
+) -> Result<(), Fault>
+    ensures { Makes result routine.old routine.new (λ d. after_line number d (line_left line.entry)) }
 {
     match read_statement(heap, line)? {
-        Some(statement) => routine.accept(statement),
+        Some(statement) => routine.accept(number, statement),
         None => Ok(()),
     }
 }

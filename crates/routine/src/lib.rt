@@ -15,6 +15,7 @@ mod rows;
 mod sizes;
 mod statements;
 mod steps;
+mod stretches;
 
 pub use faults::{Fault, FileFault, Malformed};
 pub use files::read;
@@ -27,3 +28,4 @@ pub use row_layout::Column;
 pub use rows::{Entry, ROW_WIDTH, RowName, read_row};
 pub use statements::{Statement, read_statement};
 pub use steps::Step;
+pub use stretches::Stretch;

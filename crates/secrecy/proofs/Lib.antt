@@ -1,6 +1,7 @@
 pub mod Columns
 pub mod Says
 pub mod Meanings
+pub mod Held
 pub mod Refused
 pub mod Setting
 pub mod Statics
@@ -10,3 +11,5 @@ pub mod Running
 pub mod Lives
 pub mod Arrivals
 pub mod Hidings
+pub mod Monotone
+pub mod Fillings

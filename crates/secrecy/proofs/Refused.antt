@@ -1,17 +1,17 @@
 -- Where the checks refuse, everything is as the refusal says.
 use Rattle.std.proofs.Common.{◌≡◌, ◌≢◌, ℕ, zero, suc, ◌+◌, ◌*◌, ◌<◌, ◌≤◌, Bool, true, false, eqb, cond, ◌||◌, ◌==◌, nat_lt, ⊎_elim, List, [], ◌∷◌, length, refl, sym, ap, subst, ◌∙◌, arith}
 use Rattle.std.proofs.lemmas.Bool.Decides.{Decides-eqb, nat_tests}
-use Rattle.verdicts.specs.Verdict.{Verdict, Refusal, fine, refused, and_then, rule, first, first_of}
-use Rattle.verdicts.proofs.Firsts.{and_fine, then_broken, rule_broken, first_named, first_each, first_of_named, first_of_each, first_of-nil, first_of-cons, first_of-append}
+use Rattle.verdicts.specs.Verdict.{Verdict, Refusal, fine, refused, refusal, and_then, rule, first, first_of}
+use Rattle.verdicts.proofs.Firsts.{and_fine, then-on, then_stop, then_broken, rule_met, rule_broken, first_stop, each_first, first_named, first_each, first_of_named, first_of_each, each_first_of, first_of_split, first_of-nil, first_of-cons, first_of-append}
 use Rattle.levels.specs.Order.{Meaning}
 use Rattle.machine.specs.Machine.{Machine, Kind, plain, forks, calls, rets}
 use Rattle.secrecy.specs.Rows.{Rows, rows_of, cell, place_columns, level_columns, region_column, columns}
 use Rattle.secrecy.specs.Flow.{deciding, pc_level}
 use Rattle.secrecy.specs.Rules.{only_if, outside, local, bounded, calls_to, length_rule, held_rule, shape_rule, inside_rule, bounds_rule, deciding_rule, time_rule, flow_rule, region_rule, edge_rule, return_rule, finish_rule, edges_from, address_rule, address_rules, edge_rules, row_rule, row_rules, rules_of}
-use Rattle.secrecy.specs.Accepted.{Shape}
+use Rattle.secrecy.specs.Accepted.{Shape, Flows}
 use Rattle.secrecy.specs.Edges.{EdgeAt, edge, joined_lists, return_edges, finish_edges, edges_leaving, edges_of}
 use Rattle.secrecy.specs.Refusals.{Bounded, Free, FlowsAt, Enough, HeldIn, RowsBefore, AddressesBefore, EdgesBefore, Names, not_enough, not_held, misshapen, enclosed, unbounded, decided, untimely, too_low, region_too_low, RefusalsFor}
-use Rattle.secrecy.proofs.Columns.{first_of_each as first_of_among}
+use Rattle.secrecy.proofs.Columns.{first_of_each as first_of_among, each_first_of as each_first_of_among}
 use Rattle.secrecy.proofs.Says.{Says, says_rule}
 use Rattle.secrecy.proofs.Meanings.{shape_says, time_says, edge_says, address_says}
 
@@ -161,5 +161,79 @@ module _ {B V W : Type 0} (m : Meaning) (M : Machine B V W) (rows : List ℕ) wh
       (then_broken (row_rules m M.size rows) _ r h.1))
       (then_broken (length_rule M.size rows) _ r e)
 
+-- And back: what a refusal says makes the checks refuse by it.
+refuses_rule : {P : Type 0} (t : Bool) (n : ℕ) (vs : List ℕ) → Says (rule t n vs) P → (P → ⊥) → rule t n vs ≡ refused (refusal n vs)
+refuses_rule true n vs h wrong = absurd (wrong (h.0 refl))
+refuses_rule false n vs h wrong = refl
+
+pub broken_rule : (t : Bool) (n : ℕ) (vs : List ℕ) → t ≡ false → rule t n vs ≡ refused (refusal n vs)
+broken_rule t n vs e = rw e
+
+closes : (remaining level : ℕ) → remaining ≡ 0 → (level ≢ 0) → (nat_lt 0 remaining || level == 0) ≡ false
+closes remaining level e wrong = grind (arith, nat_tests)
+
+crosses : (here there : ℕ) (flows : Bool) → 0 < here → 0 < there → flows ≡ false → (here == 0 || (there == 0 || flows)) ≡ false
+crosses here there flows h k e = grind (arith, nat_tests)
+
+module _ {B V W : Type 0} (m : Meaning) (M : Machine B V W) (rows : List ℕ) where
+  abbrev S : Rows
+  S = rows_of M.size rows
+
+  row_fine : (row : ℕ) → row ≤ M.size → HeldIn m M rows row level_columns × Shape M.size S row → row_rule m M.size rows row ≡ fine
+  row_fine row l h = then-on _ _ _ (each_first_of (held_rule m M.size rows row) level_columns (λ k d less. rule_met _ 4 _ (h.0 k d less))) ((shape_says M.size S row l).1 h.1)
+
+  -- past the numbers, at a row
+  at_row : (row : ℕ) (r : Refusal) → RowsBefore m M rows row → row ≤ M.size → row_rule m M.size rows row ≡ refused r → rules_of m M rows ≡ refused r
+  at_row row r before l e =
+      then-on (length_rule M.size rows) _ _ ((says_rule _ 3 [] (Decides-eqb (length rows) ((M.size + 1) * columns))).1 before.enough)
+      (then_stop (row_rules m M.size rows) _ r
+      (first_stop (row_rule m M.size rows) row (M.size + 1) r (each_first (row_rule m M.size rows) row (λ k less. row_fine k (omega arith) (before.each k less))) e (omega arith)))
+
+  -- past all rows
+  past_rows : (v : Verdict) → RowsBefore m M rows (M.size + 1) → and_then (address_rules m M S) (edge_rules m M S) ≡ v → rules_of m M rows ≡ v
+  past_rows v right e =
+      then-on (length_rule M.size rows) _ _ ((says_rule _ 3 [] (Decides-eqb (length rows) ((M.size + 1) * columns))).1 right.enough)
+      (then-on (row_rules m M.size rows) _ _ (each_first (row_rule m M.size rows) (M.size + 1) (λ k less. row_fine k (omega arith) (right.each k less))) e)
+
+  at_address : (a : ℕ) (r : Refusal) → AddressesBefore m M rows a → a < M.size → address_rule m M S a ≡ refused r → rules_of m M rows ≡ refused r
+  at_address a r before l e =
+      past_rows (refused r) before.rows_right
+      (then_stop (address_rules m M S) _ r (first_stop (address_rule m M S) a M.size r (each_first (address_rule m M S) a (λ k less. (address_says m M S k).1 (before.each k less))) e l))
+
+  at_edge : (e : EdgeAt) (r : Refusal) → EdgesBefore m M rows e → edge_rule m M S e.from e.to e.cycles ≡ refused r → rules_of m M rows ≡ refused r
+  at_edge e r before h =
+      past_rows (refused r) before.addresses_right.rows_right
+      (then-on (address_rules m M S) _ _ (each_first (address_rule m M S) M.size (λ k less. (address_says m M S k).1 (before.addresses_right.each k less)))
+      (all_edges m M S ∙ first_of_split (of_edge m M S) before.before before.after (edges_of M S) e r before.split
+      (each_first_of (of_edge m M S) before.before (λ k d less. (edge_says m M S _ _ _).1 (before.each k d less))) h))
+
+  all_flow : (a b : ℕ) → Flows m M S a b → first_of (flow_rule m M S a b) place_columns ≡ fine
+  all_flow a b h = each_first_of_among (flow_rule m M S a b) place_columns (λ p place. rule_met _ 10 _ (h p place))
+
+  refuses : (r : Refusal) → Names m M rows r → rules_of m M rows ≡ refused r
+  refuses r (not_enough wrong) = then_stop (length_rule M.size rows) _ _ (refuses_rule _ 3 [] (says_rule _ 3 [] (Decides-eqb (length rows) ((M.size + 1) * columns))) wrong)
+  refuses r (not_held row column before after rb l split held wrong) =
+      at_row row _ rb l (then_stop (first_of (held_rule m M.size rows row) level_columns) _ _
+      (first_of_split (held_rule m M.size rows row) before after level_columns column _ split (each_first_of (held_rule m M.size rows row) before (λ k d less. rule_met _ 4 _ (held k d less))) (broken_rule _ 4 _ wrong)))
+  refuses r (misshapen row rb l held wrong) =
+      at_row row _ rb l (then-on (first_of (held_rule m M.size rows row) level_columns) _ _ (each_first_of (held_rule m M.size rows row) level_columns (λ k d less. rule_met _ 4 _ (held k d less)))
+      (refuses_rule _ 5 (row ∷ []) (shape_says M.size S row l) wrong))
+  refuses r (enclosed a before l wrong) = at_address a _ before l (then_stop (inside_rule M S a) _ _ (refuses_rule _ 7 (a ∷ []) (free_says M.size S a (M.kind a)) wrong))
+  refuses r (unbounded a before l free wrong) =
+      at_address a _ before l (then-on (inside_rule M S a) _ _ ((free_says M.size S a (M.kind a)).1 free)
+      (then_stop (bounds_rule M S a) _ _ (refuses_rule _ 6 (a ∷ []) (bounded_says M.size S a (M.kind a)) wrong)))
+  refuses r (decided a before l free bound out wrong) =
+      at_address a _ before l (then-on (inside_rule M S a) _ _ ((free_says M.size S a (M.kind a)).1 free)
+      (then-on (bounds_rule M S a) _ _ ((bounded_says M.size S a (M.kind a)).1 bound) (broken_rule _ 8 (a ∷ []) (closes (S.remaining a) (deciding m M S a) out wrong))))
+  refuses r (untimely e before wrong) = at_edge e _ before (then_stop (time_rule S e.from e.to e.cycles) _ _ (refuses_rule _ 9 (e.from ∷ (e.to ∷ [])) (time_says m M S e.from e.to e.cycles) wrong))
+  refuses r (too_low e p before after reached timed split flow wrong) =
+      at_edge e _ reached (then-on (time_rule S e.from e.to e.cycles) _ _ ((time_says m M S e.from e.to e.cycles).1 timed)
+      (then_stop (first_of (flow_rule m M S e.from e.to) place_columns) _ _
+      (first_of_split (flow_rule m M S e.from e.to) before after place_columns p _ split (each_first_of (flow_rule m M S e.from e.to) before (λ k d less. rule_met _ 10 _ (flow k d less))) (broken_rule _ 10 _ wrong))))
+  refuses r (region_too_low e reached timed flow here there wrong) =
+      at_edge e _ reached (then-on (time_rule S e.from e.to e.cycles) _ _ ((time_says m M S e.from e.to e.cycles).1 timed)
+      (then-on (first_of (flow_rule m M S e.from e.to) place_columns) _ _ (all_flow e.from e.to flow)
+      (broken_rule _ 10 _ (crosses (S.remaining e.from) (S.remaining e.to) _ here there wrong))))
+
 pub refused_by : {B V W : Type 0} → RefusalsFor B V W
-refused_by m M rows r e = refusals m M rows r e
+refused_by m M rows r = (refusals m M rows r, refuses m M rows r)

@@ -7,4 +7,5 @@ pub mod Refusals
 pub mod Couples
 pub mod Regions
 pub mod Hiding
+pub mod Filling
 pub mod Examples

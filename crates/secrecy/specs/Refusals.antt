@@ -116,10 +116,10 @@ module _ {B V W : Type 0} (m : Meaning) (M : Machine B V W) (rows : List ℕ) wh
         m.flows (pc_level m M (rows_of M.size rows) e.from) ((rows_of M.size rows).region e.to) ≡ false →
         Names (refusal 10 (e.from ∷ (e.to ∷ (region_column ∷ []))))
 
--- where the checks refuse, everything is as the refusal says
+-- the checks refuse if everything is as the refusal says, and only then
 abbrev pub RefusalsFor : Type 0 → Type 0 → Type 0 → Type 0
 RefusalsFor B V W =
-    (m : Meaning) (M : Machine B V W) (rows : List ℕ) (r : Refusal) → rules_of m M rows ≡ refused r → Names m M rows r
+    (m : Meaning) (M : Machine B V W) (rows : List ℕ) (r : Refusal) → (rules_of m M rows ≡ refused r → Names m M rows r) × (Names m M rows r → rules_of m M rows ≡ refused r)
 
 -- the law at some fixed types, since a contract speaks of such
 abbrev pub RefusalsStand : Type 0

@@ -29,6 +29,10 @@ function_column = 38
 abbrev pub level_columns : List ℕ
 level_columns = place_columns ++ region_column ∷ []
 
+-- the columns that a maker gives of every row: they say how the routine is built, and hold no level
+abbrev pub given_columns : List ℕ
+given_columns = join_column ∷ (remaining_column ∷ (function_column ∷ []))
+
 -- whether a number is one of a list
 unfoldable pub is_among : List ℕ → ℕ → Bool
 is_among numbers n = list_any (λ k. k == n) numbers

@@ -6,6 +6,7 @@
 
 ghost use Rattle.secrecy.specs.Accepted.{RulesStand};
 ghost use Rattle.secrecy.specs.Examples.{Examples};
+ghost use Rattle.secrecy.specs.Filling.{FillingStands};
 ghost use Rattle.secrecy.specs.Hiding.{HidingStands};
 ghost use Rattle.secrecy.specs.Refusals.{RefusalsStand};
 
@@ -15,7 +16,8 @@ pub fn rules_stand()
     ensures { RulesStand }
 {}
 
-/// Where the checks of rows refuse, the rule that the refusal names is broken, and everything that comes before it is right.
+/// The checks of rows refuse where the rule that the refusal names is broken and everything that comes before it is right, and only
+/// there.
 #[tactic(auto, using(crate::proofs::Refused::refused_by))]
 pub fn refusals_stand()
     ensures { RefusalsStand }
@@ -26,6 +28,12 @@ pub fn refusals_stand()
 #[tactic(auto, using(crate::proofs::Hidings::hiding))]
 pub fn hiding_stands()
     ensures { HidingStands }
+{}
+
+/// Levels that rise along the ways of a routine stay below every accepted set of rows, and settle on an accepted one if there is any.
+#[tactic(auto, using(crate::proofs::Fillings::filling))]
+pub fn filling_stands()
+    ensures { FillingStands }
 {}
 
 /// The rules at work: some small routines with their rows, accepted or refused.

@@ -16,6 +16,10 @@ pub then_broken : (v w : Verdict) (r : Refusal) → and_then v w ≡ refused r �
 then_broken fine w r e = inr (refl, e)
 then_broken (refused s) w r e = inl e
 
+-- the first of two checks that is broken
+pub then_stop : (v w : Verdict) (r : Refusal) → v ≡ refused r → and_then v w ≡ refused r
+then_stop v w r e = rw e
+
 -- a rule that is broken
 pub rule_broken : (t : Bool) (n : ℕ) (vs : List ℕ) (r : Refusal) → rule t n vs ≡ refused r → (t ≡ false) × (refusal n vs ≡ r)
 rule_broken true n vs r e = cc
@@ -77,6 +81,10 @@ module _ {X : Type 0} (f : X → Verdict) where
   unfolding first_of
   first_of-append [] ys = refl
   first_of-append (x ∷ xs) ys = grind (arith, first_of-append xs ys)
+
+  -- where the elements before one are right, and it is not
+  pub first_of_split : (before after xs : List X) (x : X) (r : Refusal) → xs ≡ before ++ x ∷ after → first_of f before ≡ fine → f x ≡ refused r → first_of f xs ≡ refused r
+  first_of_split before after xs x r e right here = grind (arith, first_of-append before (x ∷ after), first_of-cons x after)
 
   -- the steps of a loop over the list, where ys are the elements that are left: past one, at one that is broken, at the end
   pub first_of_on : (v : Verdict) (x : X) (xs ys : List X) → v ≡ first_of f ys → ys ≡ x ∷ xs → f x ≡ fine → v ≡ first_of f xs

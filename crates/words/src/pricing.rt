@@ -5,17 +5,14 @@ ghost use Rattle.words.specs.Cycles.{cycles_of, binary_cycles};
 use crate::codes::Coded;
 use crate::instruction::{BinaryOp, Instruction};
 
-/// The cycles of a load by a pointer, by the number of its mode; 0 where no mode has the number.
-// Indexed by the four bits m of the word, so that it can be held against the table in docs/WORDS.md.
-const LOAD_CYCLES: [u8; 16] = [0, 2, 3, 0, 0, 0, 0, 0, 0, 2, 3, 0, 1, 2, 3, 0];
-
 impl Instruction {
     /// The cycles of the instruction where it diverts (a branch that is taken, a cpse that skips), or where it goes on.
     pub fn cycles(self, diverts: bool) -> u8
         ensures { result ≡ cycles_of self diverts }
     {
         match self {
-            Instruction::Load { mode, .. } => LOAD_CYCLES[mode.code() as usize],
+            // The low two bits of a mode's number say how the pointer steps: 0 not at all, 1 up, 2 down.
+            Instruction::Load { mode, .. } => 1 + (mode.code() % 4) as u8,
             Instruction::Binary {
                 op: BinaryOp::Cpse,
                 ..

@@ -55,9 +55,10 @@ impl<O: Order> Judgement<'_, O> {
     /// The rules of one address: no call or return inside a region, every edge keeps in, and nothing above level 0 decides
     /// outside.
     pub(crate) fn check_address(&self, at: u16) -> Result<(), FlowFault>
+        requires { at < 1024 }
         ensures { says flow_refusal result ≡ address_verdict (O.Order.meaning self.now.order.now) self.now.routine at }
     {
-        let instruction = self.routine.instruction(at);
+        let instruction = self.instruction(at);
         if !self.is_outside(u32::from(at)) && !is_local(at, instruction) {
             return Err(FlowFault::Inside { at });
         }

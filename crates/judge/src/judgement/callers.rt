@@ -5,7 +5,7 @@ ghost use Rattle.avr.specs.Chip.{kind_of};
 ghost use Rattle.row_layout.specs.Views.{chip};
 ghost use Rattle.judge.specs.Faults.{flow_refusal};
 ghost use Rattle.judge.specs.Verdicts.{return_verdict, callers_verdict, returns_verdict};
-ghost use Rattle.judge.specs.Worked.{callee_of, Callees};
+ghost use Rattle.judge.specs.Worked.{callee_of, Callees, Decoded};
 
 use crate::faults::FlowFault;
 use crate::judgement::departure::Departure;
@@ -26,11 +26,25 @@ fn callee(at: u16, instruction: Instruction) -> Option<u32>
     }
 }
 
+/// The instruction at each address.
+pub(crate) fn decode(routine: &RoutineView) -> [Instruction; CAPACITY]
+    ensures { Decoded routine.now result }
+{
+    array::from_fn(|at| routine.instruction(at as u16))
+}
+
 /// The function that each word calls.
-pub(crate) fn callees(routine: &RoutineView) -> [Option<u32>; CAPACITY]
+pub(crate) fn callees(
+    routine: &RoutineView,
+    instructions: &[Instruction; CAPACITY],
+) -> [Option<u32>; CAPACITY]
+    requires { Decoded routine.now instructions.now }
     ensures { Callees routine.now result }
 {
-    array::from_fn(|at| callee(at as u16, routine.instruction(at as u16)))
+    array::from_fn(|at| {
+        let instruction = instructions.get(at).copied().unwrap_or(Instruction::Nop);
+        callee(at as u16, instruction)
+    })
 }
 
 impl<O: Order> Departure<'_, O> {

@@ -1,12 +1,15 @@
 //! Edges: their time, and the levels that flow along them.
-ghost use Rattle.std.specs.Prelude.{◌≡◌};
-ghost use Rattle.verdicts.specs.Verdict.{says};
+ghost use Rattle.std.specs.Prelude.{◌≡◌, true};
+ghost use Rattle.verdicts.specs.Verdict.{says, fine};
+ghost use Rattle.std.specs.List.{list_all};
+ghost use Rattle.avr.specs.Table.{written_of};
 ghost use Rattle.judge.specs.Faults.{flow_refusal};
-ghost use Rattle.judge.specs.Verdicts.{in_time, places_verdict, region_verdict, edge_verdict};
+ghost use Rattle.judge.specs.Verdicts.{in_time, flows_along, places_verdict, region_verdict, edge_verdict};
 
 use crate::faults::FlowFault;
 use crate::judgement::Judgement;
 use crate::judgement::departure::Departure;
+use avr::table::written;
 use levels::order::Order;
 use row_layout::{REGION, place_columns};
 
@@ -21,13 +24,44 @@ impl<O: Order> Departure<'_, O> {
             || routine.rows.stays(self.at, next, cycles)
     }
 
+    /// Whether the level of a place after the word flows to its level in the next row.
+    fn flows_at(&self, next: u32, place: u16) -> bool
+        ensures { result ≡ flows_along (O.Order.meaning self.now.judgement.now.order.now) self.now.judgement.now.routine self.now.at next place }
+    {
+        let Judgement { routine, order, .. } = self.judgement;
+        let level = self.judgement.level_after(self.at, self.instruction, place);
+        order.flows(level, routine.rows.level(next, place))
+    }
+
+    /// Whether the levels of all places that the word writes flow to their levels in the next row.
+    fn written_flow(&self, next: u32) -> bool
+        ensures { result ≡ list_all (flows_along (O.Order.meaning self.now.judgement.now.order.now) self.now.judgement.now.routine self.now.at next) (written_of self.now.instruction) }
+    {
+        let places = written(self.instruction);
+        places
+            .as_slice()
+            .iter()
+            .all(|place| self.flows_at(next, *place))
+    }
+
+    /// Whether the next row has the same codes, and what the word writes flows: then all levels do, since held ones flow to
+    /// themselves.
+    fn keeps_levels(&self, next: u32) -> bool
+        ensures { result ≡ true → places_verdict (O.Order.meaning self.now.judgement.now.order.now) self.now.judgement.now.routine self.now.at next ≡ fine }
+    {
+        self.judgement.same_codes(u32::from(self.at), next) && self.written_flow(next)
+    }
+
     /// Whether the level of each place after a word flows to its level in the next row.
+    #[tactic(auto, unfolding(verdicts::specs::Verdict::first_of))]
     fn check_levels(&self, next: u32) -> Result<(), FlowFault>
         ensures { says flow_refusal result ≡ places_verdict (O.Order.meaning self.now.judgement.now.order.now) self.now.judgement.now.routine self.now.at next }
     {
-        let Judgement { routine, order, .. } = self.judgement;
-        for (place, level) in place_columns().iter().zip(&self.levels) {
-            if !order.flows(*level, routine.rows.level(next, *place)) {
+        if self.keeps_levels(next) {
+            return Ok(());
+        }
+        for place in place_columns() {
+            if !self.flows_at(next, *place) {
                 return Err(FlowFault::Level {
                     at: self.at,
                     next,

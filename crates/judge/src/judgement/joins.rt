@@ -1,7 +1,6 @@
 //! Levels joined: the level of a place after an instruction, and of what decides where one leads.
-ghost use Rattle.std.specs.Prelude.{◌≡◌, map};
+ghost use Rattle.std.specs.Prelude.{◌≡◌};
 ghost use Rattle.avr.specs.Chip.{kind_of};
-ghost use Rattle.secrecy.specs.Rows.{place_columns as columns_of_places};
 ghost use Rattle.secrecy.specs.Flow.{joined as joined_of, join_of_all, deciding_of};
 ghost use Rattle.row_layout.specs.Views.{rows_in};
 ghost use Rattle.judge.specs.Views.{level_by};
@@ -9,8 +8,6 @@ ghost use Rattle.judge.specs.Views.{level_by};
 use crate::judgement::Judgement;
 use avr::table::{comes_from, deciders};
 use levels::order::Order;
-use row_layout::{PLACES, place_columns};
-use std::array;
 use words::instruction::Instruction;
 use words::route::Route;
 
@@ -47,7 +44,7 @@ impl<O: Order> Judgement<'_, O> {
     }
 
     /// The level of a place after an instruction: where it is written, the region level joined with what its value comes from.
-    fn level_after(&self, at: u16, instruction: Instruction, place: u16) -> u16
+    pub(crate) fn level_after(&self, at: u16, instruction: Instruction, place: u16) -> u16
         ensures { result ≡ level_by (O.Order.meaning self.now.order.now) (rows_in self.now.routine.rows) at instruction place }
     {
         let row = u32::from(at);
@@ -55,13 +52,5 @@ impl<O: Order> Judgement<'_, O> {
             Some(sources) => self.joined(row, self.routine.rows.region(row), sources.as_slice()),
             None => self.routine.rows.level(row, place),
         }
-    }
-
-    /// The level of each place after an instruction, in the order of their columns.
-    pub(crate) fn levels_after(&self, at: u16, instruction: Instruction) -> [u16; PLACES]
-        ensures { result ≡ map (level_by (O.Order.meaning self.now.order.now) (rows_in self.now.routine.rows) at instruction) columns_of_places }
-    {
-        let columns = place_columns();
-        array::from_fn(|index| self.level_after(at, instruction, columns[index]))
     }
 }

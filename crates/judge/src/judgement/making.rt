@@ -1,14 +1,16 @@
 //! How a judgement is begun.
 ghost use Rattle.std.specs.Prelude.{◌≡◌, ◌<◌, ◌≤◌, length, IfOk};
 ghost use Rattle.verdicts.specs.Verdict.{says};
+ghost use Rattle.avr.specs.Chip.{instruction_of};
 ghost use Rattle.secrecy.specs.Rules.{length_rule, inside, outside};
 ghost use Rattle.row_layout.specs.Views.{rows_in};
 ghost use Rattle.judge.specs.Faults.{row_refusal};
 
 use crate::faults::RowFault;
 use crate::judgement::Judgement;
-use crate::judgement::callers::callees;
+use crate::judgement::callers::{callees, decode};
 use row_layout::{COLUMNS, RoutineView};
+use words::instruction::Instruction;
 
 impl<'j, O> Judgement<'j, O> {
     /// The judgement of the words of a listing and of rows, if the numbers of the rows are as many as the words call for.
@@ -22,10 +24,12 @@ impl<'j, O> Judgement<'j, O> {
             return Err(RowFault::Count);
         }
         let routine = RoutineView::new(words, rows);
+        let instructions = decode(&routine);
         Ok(Judgement {
             routine,
             order,
-            callees: callees(&routine),
+            instructions,
+            callees: callees(&routine, &instructions),
         })
     }
 
@@ -36,6 +40,14 @@ impl<'j, O> Judgement<'j, O> {
         ensures few { result ≤ 1024 }
     {
         self.routine.words.len() as u16
+    }
+
+    /// The instruction at an address.
+    pub(crate) fn instruction(&self, at: u16) -> Instruction
+        requires { at < 1024 }
+        ensures { result ≡ instruction_of self.now.routine.words.now at }
+    {
+        self.instructions[usize::from(at)]
     }
 
     /// Whether a row is inside a region.

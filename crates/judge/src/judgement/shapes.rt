@@ -1,6 +1,6 @@
 //! Rows on their own: their codes and their shape.
-ghost use Rattle.std.specs.Prelude.{◌≡◌, ◌&&◌, ◌==◌};
-ghost use Rattle.verdicts.specs.Verdict.{says};
+ghost use Rattle.std.specs.Prelude.{◌≡◌, ◌<◌, ◌-◌, ◌&&◌, true, ◌==◌};
+ghost use Rattle.verdicts.specs.Verdict.{says, fine};
 ghost use Rattle.secrecy.specs.Rules.{bare_outside, joins_in_listing, function_in_listing, begins_at_zero, bare_finish, shaped};
 ghost use Rattle.judge.specs.Faults.{row_refusal};
 ghost use Rattle.judge.specs.Verdicts.{codes_verdict, row_verdict};
@@ -29,6 +29,14 @@ impl<O: Order> Judgement<'_, O> {
             }
         }
         Ok(())
+    }
+
+    /// Whether a row has the codes of the row before it, which is right: then they are all held.
+    fn repeats_codes(&self, row: u16) -> bool
+        requires { 0 < row → row_verdict (O.Order.meaning self.now.order.now) self.now.routine (row - 1) ≡ fine }
+        ensures { result ≡ true → codes_verdict (O.Order.meaning self.now.order.now) self.now.routine row ≡ fine }
+    {
+        row > 0 && self.same_codes(u32::from(row) - 1, u32::from(row))
     }
 
     /// Whether a row has neither a region level nor a join address.
@@ -87,9 +95,12 @@ impl<O: Order> Judgement<'_, O> {
 
     /// The rules of one row: its codes, then its shape.
     pub(crate) fn check_row(&self, row: u16) -> Result<(), RowFault>
+        requires { 0 < row → row_verdict (O.Order.meaning self.now.order.now) self.now.routine (row - 1) ≡ fine }
         ensures { says row_refusal result ≡ row_verdict (O.Order.meaning self.now.order.now) self.now.routine row }
     {
-        self.check_codes(row)?;
+        if !self.repeats_codes(row) {
+            self.check_codes(row)?;
+        }
         if self.is_shaped(u32::from(row)) {
             Ok(())
         } else {

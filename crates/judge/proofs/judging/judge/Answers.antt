@@ -1,4 +1,4 @@
-use Rattle.std.proofs.Common.{◌≡◌, ℕ, List, length, Ok, Err, IfErr, Result, sym, refl, ap, ◌∙◌}
+use Rattle.std.proofs.Common.{◌≡◌, ℕ, List, length, Ok, Err, Result, sym, refl, ap, ◌∙◌}
 use Rattle.verdicts.specs.Verdict.{says, fine}
 use Rattle.verdicts.proofs.Firsts.{and_fine, then-on}
 use Rattle.avr.specs.Chip.{avr}
@@ -11,9 +11,9 @@ use Rattle.secrecy.proofs.Meanings.{rules}
 use Rattle.judge.specs.declared.faults.JudgeFault.{JudgeFault}
 use Rattle.judge.specs.Faults.{judge_refusal}
 use Rattle.judge.specs.Judgement.{judgement_of, Exactly}
-use Rattle.judge.specs.Refused.{RefusedBy}
+use Rattle.judge.specs.Refused.{RefusesExactly}
 use Rattle.judge.proofs.Placed.{placed}
-use Rattle.judge.proofs.Refused.{refused_by}
+use Rattle.judge.proofs.Refused.{refused_by, refuses_by}
 use Rattle.judge.proofs.judging.judge.Goals as goal
 
 -- an answer that says nothing is acceptance
@@ -28,9 +28,8 @@ module _ (m : Meaning) (ws rows : List ℕ) where
     only_if = λ a. let p = and_fine _ _ (sym e ∙ ap (says judge_refusal) a) in (p.0, (rules m (avr ws) rows).0 p.1);
   }
 
-  refuses : (r : Result (Unit {0}) JudgeFault) → says judge_refusal r ≡ judgement_of m ws rows → IfErr r (λ fault. RefusedBy m ws rows (judge_refusal fault))
-  refuses (Ok x) e = tt
-  refuses (Err f) e = refused_by m ws rows (judge_refusal f) (sym e)
+  refuses : (r : Result (Unit {0}) JudgeFault) → says judge_refusal r ≡ judgement_of m ws rows → RefusesExactly m ws rows r
+  refuses r e = record { if = λ by h. e ∙ refuses_by m ws rows by h; only_if = λ by h. refused_by m ws rows by (sym e ∙ h) }
 
   hides : Laws m → (r : Result (Unit {0}) JudgeFault) → says judge_refusal r ≡ judgement_of m ws rows → r ≡ Ok tt → Hides m (avr ws) (rows_of (length ws) rows)
   hides laws r e a = hiding m laws (avr ws) (sound ws) (placed ws) rows (and_fine _ _ (sym e ∙ ap (says judge_refusal) a)).1

@@ -27,7 +27,7 @@ loop-before-preserved c =
     let steps = c.in-Some.ensures.steps in
     let here = steps.1 in
     let told = numbered n c.read_line.result c.map_err.result _ _ _ _ c.map_err.ensures.cases (λ f g k. search rules) c.read_line.ensures in
-    let read : after_line (draft_of c.loop-before.routine) (line_left c.in-Some.line) ≡ Ok (draft_of c.read_line.new.routine) = rw (c.in_ok-map_err.was) at told in
+    let read : after_line n (draft_of c.loop-before.routine) (line_left c.in-Some.line) ≡ Ok (draft_of c.read_line.new.routine) = rw (c.in_ok-map_err.was, here) at told in
     let step = lines_more n (lines_left (enumerate_source it)) (draft_of c.loop-before.routine) _ _ steps.0.first _ read in
     let fits : enumerate_count then + length (lines_left (enumerate_source then)) < 2 ^ 64 = omega (arith, ap length steps.0.first, steps.2, c.loop-before.invariant.3) in (
       (tt, tt, inl fits),
@@ -43,7 +43,7 @@ returns-in_err-map_err c =
     let steps = c.in-Some.ensures.steps in
     let here = steps.1 in
     let told = numbered n c.read_line.result c.map_err.result _ _ _ _ c.map_err.ensures.cases (λ f g k. search rules) c.read_line.ensures in
-    let read = rw (c.in_err-map_err.was) at told in
+    let read = rw (c.in_err-map_err.was, here) at told in
     let f = c.in_err-map_err.field-0.0 in
     let wrong =
     subst (Blames (λ m. (f.line, m)) f.fault) c.loop-before.invariant.2

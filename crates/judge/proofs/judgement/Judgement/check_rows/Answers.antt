@@ -1,5 +1,5 @@
-use Rattle.std.proofs.Common.{sym, arith}
-use Rattle.verdicts.proofs.Firsts.{first_more, first_all}
+use Rattle.std.proofs.Common.{◌-◌, sym, arith}
+use Rattle.verdicts.proofs.Firsts.{first_each, first_more, first_all}
 use Rattle.judge.specs.Faults.{row_refusal}
 use Rattle.judge.proofs.Checks.{stopped}
 use Rattle.judge.proofs.judgement.Judgement.check_rows.Goals as goal
@@ -10,3 +10,6 @@ returns-in_err-check_row g c =
 
 pub returns-in_ok-check_row : goal.returns-in_ok-check_row
 returns-in_ok-check_row g c = sym (first_all _ _ _ (first_more _ _ c.loop-row.invariant (sym c.in_ok-check_row.ensures)) (omega arith) (omega arith))
+
+pub check_row-requires : goal.check_row-requires
+check_row-requires g c = λ positive. first_each _ c.loop-row.row c.loop-row.invariant (c.loop-row.row - 1) (omega arith)

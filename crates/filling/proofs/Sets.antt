@@ -1,0 +1,64 @@
+-- One number of some rows, changed.
+use Rattle.std.proofs.Common.{◌≡◌, ℕ, ◌+◌, ◌*◌, ◌<◌, ◌≤◌, Bool, true, false, cond, nat_lt, nat_eq, List, length, set, get_or, refl, arith, length-set, get_or-set_other, ◌≢◌, ◌⊎◌, inl, inr, ⊎_elim}
+use Rattle.std.proofs.lemmas.Bool.{cases_Bool}
+use Rattle.std.proofs.lemmas.Bool.Decides.{nat_tests}
+use Rattle.std.proofs.lemmas.Grind.{get_or-set_at}
+use Rattle.std.proofs.lemmas.List.Sums.{sum_by-set, sum_by-le}
+use Rattle.std.proofs.lemmas.List.Elements.{All-from_get_or}
+use Rattle.std.proofs.lemmas.List.FromFn.{get_or-range_with_len}
+use Rattle.secrecy.specs.Rows.{rows_of, cell, columns, is_among, is_place, place_columns, level_columns, region_column}
+use Rattle.secrecy.proofs.Columns.{among-range, level_column}
+use Rattle.filling.specs.Between.{weight, IsLevel}
+
+-- the weight of rows of which one number is changed
+pub weight_set : (rank : ℕ → ℕ) (xs : List ℕ) (i v : ℕ) → i < length xs → weight rank (set xs i v) + rank (get_or xs i 0) ≡ weight rank xs + rank v
+weight_set rank xs i v l = sum_by-set rank xs i v 0 l
+
+-- and a bound of it
+pub weight_bound : (rank : ℕ → ℕ) (xs : List ℕ) → ((a : ℕ) → rank a < 65536) → weight rank xs ≤ 65535 * length xs
+weight_bound rank xs small = let h = sum_by-le rank 65535 xs (All-from_get_or (λ x. rank x ≤ 65535) xs 0 (λ i l. let s = small (get_or xs i 0) in omega arith)) in omega arith
+
+-- places are the columns below that of the region level
+pub place_small : (p : ℕ) → is_place p ≡ nat_lt p 35
+unfolding place_columns
+place_small p = grind (arith, nat_tests, among-range 0 35 p)
+
+pub level_small : (c : ℕ) → is_among level_columns c ≡ nat_lt c 36
+level_small c = grind (arith, nat_tests, level_column c, place_small c)
+
+pub places_length : length place_columns ≡ 35
+unfolding place_columns
+places_length = refl
+
+-- the place at an index of their list has the index for its number
+pub place_at : (i : ℕ) → i < 35 → get_or place_columns i 0 ≡ i
+unfolding place_columns
+place_at i l = let e = get_or-range_with_len 0 35 i 0 l in grind arith
+
+pub place_level : (i : ℕ) → i < 35 → is_among level_columns (get_or place_columns i 0) ≡ true
+place_level i l = grind (arith, nat_tests, place_at i l, level_small i)
+
+pub region_level : is_among level_columns 35 ≡ true
+region_level = grind (arith, nat_tests, level_small 35)
+
+module _ (n : ℕ) (rows : List ℕ) (whole : length rows ≡ (n + 1) * columns) (b c v : ℕ) (row : b ≤ n) (column : c < columns) where
+  pub inside : b * columns + c < length rows
+  inside = rw whole (omega arith)
+
+  abbrev after : List ℕ
+  after = set rows (b * columns + c) v
+
+  pub here : cell n after b c ≡ v
+  here = let l = inside in grind (arith, nat_tests, get_or-set_at)
+
+  there : (a d : ℕ) → d < columns → (a ≡ b → d ≡ c → ⊥) → cell n after a d ≡ cell n rows a d
+  there a d l other =
+      let apart : a * columns + d ≢ b * columns + c = λ e. let p : a ≡ b = omega arith in other p (omega arith) in
+      grind (arith, nat_tests, get_or-set_other)
+
+  -- a cell is the changed one, or as it was
+  abbrev pub Changed : ℕ → ℕ → Type 0
+  Changed a d = (a ≡ b) × (d ≡ c) × (cell n after a d ≡ v)
+
+  pub cell_cases : (a d : ℕ) → d < columns → Changed a d ⊎ (cell n after a d ≡ cell n rows a d)
+  cell_cases a d l = grind (arith, nat_tests, here, there a d l)

@@ -1,0 +1,70 @@
+-- Rows on the way from what is given to the least accepted ones. Assumes nothing.
+use Rattle.std.specs.Prelude.{◌≡◌, ℕ, ◌+◌, ◌*◌, ◌≤◌, ◌<◌, Bool, true, false, List, length, slice_index}
+use Rattle.std.specs.List.{sum_by}
+use Rattle.levels.specs.Order.{Meaning}
+use Rattle.avr.specs.Chip.{avr}
+use Rattle.secrecy.specs.Rows.{rows_of, cell, columns, is_among, place_columns, level_columns, region_column}
+use Rattle.secrecy.specs.Flow.{pc_level as pc_level_of, level_after}
+use Rattle.secrecy.specs.Filling.{SameGiven, RowBelow, Below, AllHeld, FillsIn, Leads, SettledOn, Settled}
+
+-- the sum of the ranks of some numbers, which rises with each level that is raised
+abbrev pub weight : (ℕ → ℕ) → List ℕ → ℕ
+weight rank rows = sum_by rank rows
+
+-- a column holds the code of a level
+abbrev pub IsLevel : ℕ → Type 0
+IsLevel column = is_among level_columns column ≡ true
+
+module _ (m : Meaning) (ws given : List ℕ) where
+  -- rows that have what is given, and lie at or below all accepted rows that have it
+  pub record Between (rows : List ℕ) : Type 0 where
+    pub whole : length rows ≡ (length ws + 1) * columns
+    pub same : SameGiven (rows_of (length ws) rows) (rows_of (length ws) given)
+    pub held : AllHeld m (avr ws) (rows_of (length ws) rows)
+    pub above : RowBelow m 0 (rows_of (length ws) given) (rows_of (length ws) rows)
+    pub below : (other : List ℕ) → FillsIn m (avr ws) given other → Below m (rows_of (length ws) rows) (rows_of (length ws) other)
+
+  -- a level that each accepted set of rows has at least in one column of one row
+  pub record Due (row column level : ℕ) : Type 0 where
+    pub held : m.held level ≡ true
+    pub below : (other : List ℕ) → FillsIn m (avr ws) given other → m.flows level (cell (length ws) other row column) ≡ true
+
+  -- nothing is left to raise along the ways from the word at an address
+  abbrev pub SettledFrom : List ℕ → ℕ → Type 0
+  SettledFrom rows a =
+      (b : ℕ) → b ≤ length ws → Leads m (avr ws) (rows_of (length ws) rows) a b → SettledOn m (avr ws) (rows_of (length ws) rows) a b
+
+  -- What the word at an address leaves behind by some rows: the level of each place after it, in the order of their columns, and its
+  -- pc_level.
+  pub record Departs (rows : List ℕ) (a : ℕ) (levels : List ℕ) (known : ℕ) : Type 0 where
+    pub each : (i : ℕ) → i < length place_columns → slice_index levels i ≡ level_after m (avr ws) (rows_of (length ws) rows) a (slice_index place_columns i)
+    pub pc_level : known ≡ pc_level_of m (avr ws) (rows_of (length ws) rows) a
+
+  -- levels are due in a row, in the order of the columns of places
+  abbrev pub DuePlaces : ℕ → List ℕ → Type 0
+  DuePlaces b levels = (i : ℕ) → i < length place_columns → Due b (slice_index place_columns i) (slice_index levels i)
+
+  -- and a pc_level, if it comes from inside and the row is inside
+  abbrev pub DueRegion : Bool → ℕ → ℕ → Type 0
+  DueRegion inside b known = inside ≡ true → 0 < (rows_of (length ws) given).remaining b → Due b region_column known
+
+  -- levels flow to those of a row, in that order
+  abbrev pub PlacesFlow : List ℕ → ℕ → List ℕ → Type 0
+  PlacesFlow rows b levels = (i : ℕ) → i < length place_columns → m.flows (slice_index levels i) (cell (length ws) rows b (slice_index place_columns i)) ≡ true
+
+  -- and so does the pc_level
+  abbrev pub RegionFlows : List ℕ → Bool → ℕ → ℕ → Type 0
+  RegionFlows rows inside b known = inside ≡ true → 0 < (rows_of (length ws) given).remaining b → m.flows known (cell (length ws) rows b region_column) ≡ true
+
+  -- what a word at a leaves behind is due wherever control may go from there
+  abbrev pub DueAlong : ℕ → List ℕ → Bool → ℕ → Type 0
+  DueAlong a levels inside known = (b : ℕ) → b ≤ length ws → Leads m (avr ws) (rows_of (length ws) given) a b → DuePlaces b levels × DueRegion inside b known
+
+  -- what is left behind flows to a row
+  abbrev pub SettledTo : List ℕ → List ℕ → Bool → ℕ → ℕ → Type 0
+  SettledTo rows levels inside known b = PlacesFlow rows b levels × RegionFlows rows inside b known
+
+-- Rows are raised or stay as they are, as a flag says: a raise makes them weigh more.
+pub record Raised (rank : ℕ → ℕ) (old new : List ℕ) (flag : Bool) : Type 0 where
+  pub more : flag ≡ true → weight rank old < weight rank new
+  pub unchanged : flag ≡ false → new ≡ old

@@ -1,0 +1,4 @@
+pub mod Seeds
+pub mod Answers
+pub mod Between
+pub mod Callees

@@ -1,0 +1,4 @@
+pub mod Hidden
+pub mod Joins
+pub mod Options
+pub mod Standings

@@ -1,0 +1,140 @@
+//! What comes of judging a routine.
+ghost use Rattle.std.specs.Prelude.{◌≡◌, ◌&&◌};
+ghost use Rattle.std.specs.List.{list_any};
+ghost use Rattle.std.specs.Option.{option_map};
+ghost use Rattle.verdicts.specs.Verdict.{says};
+ghost use Rattle.judge.specs.Faults.{judge_refusal};
+ghost use Rattle.judge.specs.Judgement.{judgement_of};
+ghost use Rattle.orders.specs.Making.{made_meaning};
+ghost use Rattle.routine.specs.Routines.{draft_of};
+ghost use Rattle.program.specs.Standings.{judges, accepted_under, judged_accepted, standing_if};
+
+use crate::standing::Standing;
+use crate::working::Job;
+use explanations::Refusal;
+use judge::faults::JudgeFault;
+use judge::judge;
+use orders::making::Made;
+use orders::simple::Simple;
+use routine::Step;
+use row_layout::RoutineView;
+use std::io;
+
+/// What comes of judging a routine.
+#[derive(Clone, Copy)]
+pub(crate) enum Judged {
+    /// No step asks for a judgement.
+    Unasked,
+    /// There is no order to judge by.
+    Orderless,
+    /// It is refused.
+    Refused(JudgeFault),
+    /// It is accepted.
+    Accepted,
+}
+
+impl Judged {
+    /// How a file stands of which this comes.
+    pub(crate) fn standing(self) -> Standing
+        ensures { result ≡ standing_if (judged_accepted self) }
+    {
+        match self {
+            Judged::Accepted => Standing::Accepted,
+            Judged::Unasked | Judged::Orderless | Judged::Refused(_) => Standing::Unaccepted,
+        }
+    }
+}
+
+impl Job<'_, '_> {
+    /// Judges the routine, if a step asks for it.
+    pub(crate) fn judge(self) -> Judged
+        ensures { judged_accepted result ≡ (list_any judges (draft_of self.entry.routine.now).steps && accepted_under (option_map (λ o. made_meaning o.now) self.entry.order) (draft_of self.entry.routine.now).words (draft_of self.entry.routine.now).rows) }
+    {
+        if !asks(self.routine.steps.as_slice()) {
+            return Judged::Unasked;
+        }
+        let Some(order) = self.order else {
+            return Judged::Orderless;
+        };
+        let words = self.routine.words.as_slice();
+        let rows = self.routine.rows.as_slice();
+        match judge_by(words, rows, order) {
+            Ok(()) => Judged::Accepted,
+            Err(fault) => Judged::Refused(fault),
+        }
+    }
+
+    /// Prints what came of judging the routine.
+    pub(crate) fn print_verdict(self, rt: &HostRuntime, judged: Judged) -> io::Result<()> {
+        match judged {
+            Judged::Accepted => println!(rt; "judge: accepted"),
+            Judged::Refused(fault) => {
+                let words = self.routine.words.as_slice();
+                let rows = self.routine.rows.as_slice();
+                let routine = RoutineView::new(words, rows);
+                let refusal = Refusal { fault, routine };
+                println!(rt; "judge: {refusal}")?;
+                self.print_lines(rt, &refusal)
+            }
+            Judged::Unasked | Judged::Orderless => println!(rt;
+                "judge: no verdict, since the order is refused"
+            ),
+        }
+    }
+}
+
+impl Job<'_, '_> {
+    /// Prints on which lines of the file the word and the rows stand that a refusal is about.
+    fn print_lines(self, rt: &HostRuntime, refusal: &Refusal<'_>) -> io::Result<()> {
+        if let Some(at) = refusal.word()
+            && let Some(line) = self.routine.word_line(at)
+        {
+            println!(rt; "  line {line} has the word at {at}")?;
+        }
+        if let Some(row) = refusal.row() {
+            self.print_row_line(rt, refusal, row)?;
+        }
+        if let Some(row) = refusal.next_row()
+            && refusal.row() != Some(row)
+        {
+            self.print_row_line(rt, refusal, row)?;
+        }
+        Ok(())
+    }
+
+    /// Prints on which line of the file a row stands.
+    fn print_row_line(self, rt: &HostRuntime, refusal: &Refusal<'_>, row: u32) -> io::Result<()> {
+        let label = refusal.label(row);
+        match self.routine.row_line(row) {
+            Some(line) => println!(rt; "  line {line} has {label}"),
+            None => println!(rt; "  no line has {label}, so all of it is 0"),
+        }
+    }
+}
+
+/// Whether one of some steps asks for a judgement.
+fn asks(steps: &[Step]) -> bool
+    ensures { result ≡ list_any judges steps.now }
+{
+    steps.iter().any(|step| is_judge(*step))
+}
+
+/// Whether a step asks for a judgement.
+fn is_judge(step: Step) -> bool
+    ensures { result ≡ judges step }
+{
+    matches!(step, Step::Judge)
+}
+
+/// Judges words and rows by an order that was made.
+// The kind of the order is asked here once, and not for each level.
+fn judge_by(words: &[u16], rows: &[u16], order: &Made) -> Result<(), JudgeFault>
+    ensures { says judge_refusal result ≡ judgement_of (made_meaning order.now) words.now rows.now }
+{
+    match order {
+        Made::Simple(Simple::Chain(order)) => judge(words, rows, order),
+        Made::Simple(Simple::Compartments(order)) => judge(words, rows, order),
+        Made::Simple(Simple::Table(order)) => judge(words, rows, order),
+        Made::Pair(order) => judge(words, rows, order),
+    }
+}

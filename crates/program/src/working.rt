@@ -1,0 +1,120 @@
+//! The steps of a routine, in order.
+use crate::calls::{Written, print_outcome};
+use crate::judging::Judged;
+use avr::location::Location;
+use couples::answers::{Answer, Answers};
+use couples::fault::LifeFault;
+use couples::living::live;
+use couples::working::Call;
+use orders::making::Made;
+use routine::{Routine, Step};
+use std::alloc::{AllocError, Global};
+use std::io;
+
+/// How many bytes the memory of a board has.
+const MEMORY: usize = 65536;
+
+/// A routine whose steps are to be worked, and the order that it is judged by, if one was made.
+#[derive(Clone, Copy)]
+pub(crate) struct Job<'r, 'o> {
+    pub routine: &'r Routine,
+    pub order: Option<&'o Made>,
+}
+
+/// What two boards answered to the calls of a routine, one after another, or why there are none.
+type Life = Result<Vec<Answers>, LifeFault>;
+
+/// The calls among some steps, in order.
+fn calls_of(heap: Global, steps: &[Step]) -> Result<Vec<Call<Location>>, AllocError> {
+    let mut calls = Vec::new(heap);
+    for step in steps {
+        if let Step::Call(call) = *step {
+            calls.push(call)?;
+        }
+    }
+    Ok(calls)
+}
+
+/// Works calls on a couple of boards, from their making on. Without calls no boards are made.
+fn live_through(heap: Global, words: &[u16], calls: &[Call<Location>]) -> Result<Life, AllocError> {
+    if calls.is_empty() {
+        return Ok(Ok(Vec::new(heap)));
+    }
+    live_on_boards(heap, words, calls)
+}
+
+/// Works calls on a couple of boards, from their making on.
+// A function of its own, since a function pays at entry for the size of its memories.
+fn live_on_boards(
+    heap: Global,
+    words: &[u16],
+    calls: &[Call<Location>],
+) -> Result<Life, AllocError> {
+    let mut left = [0u8; MEMORY];
+    let mut right = [0u8; MEMORY];
+    let none = Answers {
+        left: Answer::Done,
+        right: Answer::Done,
+    };
+    let mut answers = vec![in heap; none; calls.len()]?;
+    let lived = live(words, &mut left, &mut right, calls, answers.as_mut_slice());
+    Ok(lived.map(|()| answers))
+}
+
+impl Job<'_, '_> {
+    /// Works the calls on a couple of boards, and prints what each step came to. To judge needs no boards, and changes none.
+    pub(crate) fn work(self, rt: &HostRuntime, judged: Judged) -> io::Result<()> {
+        let steps = self.routine.steps.as_slice();
+        let calls = calls_of(rt.alloc(), steps)?;
+        let life = live_through(rt.alloc(), self.routine.words.as_slice(), calls.as_slice())?;
+        let mut number = 0usize;
+        for step in steps {
+            match *step {
+                Step::Judge => self.print_verdict(rt, judged)?,
+                Step::Join { first, second } => self.join(rt, first, second)?,
+                Step::Call(call) => {
+                    self.print_answers(rt, call, &life, number)?;
+                    number = number.saturating_add(1);
+                }
+            }
+        }
+        Ok(())
+    }
+
+    /// Prints what boards answered to a call, which is the one of that number.
+    fn print_answers(
+        self,
+        rt: &HostRuntime,
+        call: Call<Location>,
+        life: &Life,
+        number: usize,
+    ) -> io::Result<()> {
+        match life {
+            Ok(answers) => match answers.get(number) {
+                Some(answers) => print_outcome(rt, call, *answers, self.hidden(call)),
+                None => Ok(()),
+            },
+            Err(fault) => print_boardless(rt, call, *fault),
+        }
+    }
+
+    /// Whether the finish row hides what a call reads from an observer of level 0; none of other calls.
+    fn hidden(self, call: Call<Location>) -> Option<bool> {
+        match call {
+            Call::Read { location } => self.hides(location),
+            Call::Clear | Call::Put { .. } | Call::Run { .. } => None,
+        }
+    }
+}
+
+/// Prints that a call has no boards.
+fn print_boardless(rt: &HostRuntime, call: Call<Location>, fault: LifeFault) -> io::Result<()> {
+    let written = Written(call);
+    match fault {
+        LifeFault::Making(fault) => {
+            let number = fault.number();
+            println!(rt; "{written}: no board, since the words are refused {number}")
+        }
+        LifeFault::Room => println!(rt; "{written}: no board, since there is no room for answers"),
+    }
+}
