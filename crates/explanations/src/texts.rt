@@ -16,7 +16,7 @@ const NEXT: &str = "\n  ";
 
 /// The name of the column that stands at an index of its row.
 #[derive(Clone, Copy)]
-struct ColumnName(u16);
+pub struct ColumnName(pub u16);
 
 impl fmt::Display for ColumnName {
     fn fmt<W: fmt::Write>(&self, f: &mut fmt::Formatter<W>) -> fmt::Result {
