@@ -378,8 +378,10 @@ impl Refusal<'_> {
         )?;
         match comes_from(instruction, place) {
             Some(sources) => {
-                write!(f, "{name} comes from region={region}")?;
-                self.write_further(f, row, sources.as_slice())?;
+                let sources = sources.as_slice();
+                let only = if sources.is_empty() { "nothing but " } else { "" };
+                write!(f, "{name} comes from {only}region={region}")?;
+                self.write_further(f, row, sources)?;
             }
             None => {
                 write!(f, "{word} leaves {name} alone, which has ")?;
