@@ -379,7 +379,11 @@ impl Refusal<'_> {
         match comes_from(instruction, place) {
             Some(sources) => {
                 let sources = sources.as_slice();
-                let only = if sources.is_empty() { "nothing but " } else { "" };
+                let only = if sources.is_empty() {
+                    "nothing but "
+                } else {
+                    ""
+                };
                 write!(f, "{name} comes from {only}region={region}")?;
                 self.write_further(f, row, sources)?;
             }
