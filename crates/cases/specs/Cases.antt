@@ -155,7 +155,7 @@ judge_cases =
     ∷ (judged telling balanced_rows (chain 2) (refused (refusal 10 (2 ∷ (3 ∷ (18 ∷ [])))))
     ∷ []))))
 
--- a word on r16, and then a branch by Z whose arms take different times
+-- a word on r16, and then a branch by Z that stands outside every region
 abbrev pub cleared : ℕ → List ℕ
 cleared word = word ∷ (0xF009 ∷ (0x0000 ∷ (0x9508 ∷ [])))
 

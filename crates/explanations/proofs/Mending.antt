@@ -1,10 +1,9 @@
 -- A row changed as a hint says makes the way right that was refused. Assumes nothing.
-use Rattle.std.proofs.Common.{◌≡◌, ℕ, ◌+◌, ◌-◌, ◌<◌, Bool, true, false, cond, ◌&&◌, ◌==◌, nat_lt, refl, arith}
+use Rattle.std.proofs.Common.{◌≡◌, ℕ, true, false, ◌==◌, nat_lt, arith}
 use Rattle.std.proofs.lemmas.Bool.Decides.{nat_tests}
 use Rattle.verdicts.specs.Verdict.{fine}
 use Rattle.secrecy.specs.Rows.{Rows}
-use Rattle.secrecy.specs.Rules.{outside, leaves, stays, time_rule}
-use Rattle.explanations.specs.declared.hints.Hint.{Hint}
+use Rattle.secrecy.specs.Rules.{outside, time_rule}
 use Rattle.explanations.specs.Hints.{hint_of, ends_at, goes_on, comes_before, changed}
 
 module _ (R : Rows) (a b c : ℕ) (apart : (a == b) ≡ false) where

@@ -1,6 +1,5 @@
 -- What an explanation chooses to speak of. Assumes nothing.
 use Rattle.std.specs.Prelude.{ℕ, ◌+◌, Bool, cond, not, ◌&&◌, Some, None, Option, ◌==◌, nat_lt}
-use Rattle.words.specs.declared.fault.WordFault.{WordFault}
 use Rattle.words.specs.declared.fault.WordFault.TheVariants.{Length, Undecodable}
 use Rattle.words.specs.declared.route.Route.{Route}
 use Rattle.words.specs.declared.route.Route.TheVariants as route

@@ -1,5 +1,5 @@
 -- What a row should say so that a way from inside a region is in time. Assumes nothing.
-use Rattle.std.specs.Prelude.{◌≡◌, ℕ, ◌+◌, ◌-◌, Bool, true, false, cond, ◌&&◌, Some, None, Option, ◌==◌, nat_lt}
+use Rattle.std.specs.Prelude.{◌≡◌, ℕ, ◌+◌, ◌-◌, cond, ◌&&◌, Some, None, Option, ◌==◌, nat_lt}
 use Rattle.verdicts.specs.Verdict.{fine}
 use Rattle.avr.specs.Chip.{instruction_of}
 use Rattle.secrecy.specs.Rows.{Rows}

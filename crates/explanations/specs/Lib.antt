@@ -1,3 +1,4 @@
 pub mod Choices
 pub mod Hints
+pub mod Needs
 pub mod Views

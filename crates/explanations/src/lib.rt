@@ -7,9 +7,11 @@
 mod choices;
 mod facts;
 mod hints;
+mod needs;
 mod refusal;
 mod texts;
 
 pub use hints::Hint;
+pub use needs::Need;
 pub use refusal::Refusal;
-pub use texts::RowLabel;
+pub use texts::{ColumnName, RowLabel};

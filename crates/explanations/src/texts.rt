@@ -16,7 +16,7 @@ const NEXT: &str = "\n  ";
 
 /// The name of the column that stands at an index of its row.
 #[derive(Clone, Copy)]
-struct ColumnName(u16);
+pub struct ColumnName(pub u16);
 
 impl fmt::Display for ColumnName {
     fn fmt<W: fmt::Write>(&self, f: &mut fmt::Formatter<W>) -> fmt::Result {
@@ -378,8 +378,14 @@ impl Refusal<'_> {
         )?;
         match comes_from(instruction, place) {
             Some(sources) => {
-                write!(f, "{name} comes from region={region}")?;
-                self.write_further(f, row, sources.as_slice())?;
+                let sources = sources.as_slice();
+                let only = if sources.is_empty() {
+                    "nothing but "
+                } else {
+                    ""
+                };
+                write!(f, "{name} comes from {only}region={region}")?;
+                self.write_further(f, row, sources)?;
             }
             None => {
                 write!(f, "{word} leaves {name} alone, which has ")?;

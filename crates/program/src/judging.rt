@@ -11,7 +11,7 @@ ghost use Rattle.program.specs.Standings.{judges, accepted_under, judged_accepte
 
 use crate::standing::Standing;
 use crate::working::Job;
-use explanations::Refusal;
+use explanations::{ColumnName, Refusal};
 use judge::faults::JudgeFault;
 use judge::judge;
 use orders::making::Made;
@@ -74,6 +74,7 @@ impl Job<'_, '_> {
                 let routine = RoutineView::new(words, rows);
                 let refusal = Refusal { fault, routine };
                 println!(rt; "judge: {refusal}")?;
+                self.print_need(rt, &refusal)?;
                 self.print_lines(rt, &refusal)
             }
             Judged::Unasked | Judged::Orderless => println!(rt;
@@ -84,6 +85,17 @@ impl Job<'_, '_> {
 }
 
 impl Job<'_, '_> {
+    /// Prints the least level that would do where a level does not flow on.
+    fn print_need(self, rt: &HostRuntime, refusal: &Refusal<'_>) -> io::Result<()> {
+        let Some(need) = self.order.and_then(|order| refusal.need(order)) else {
+            return Ok(());
+        };
+        let label = refusal.label(need.row);
+        let column = ColumnName(need.column);
+        let level = need.level;
+        println!(rt; "  {label} needs {column}={level} at least")
+    }
+
     /// Prints on which lines of the file the word and the rows stand that a refusal is about.
     fn print_lines(self, rt: &HostRuntime, refusal: &Refusal<'_>) -> io::Result<()> {
         if let Some(at) = refusal.word()
