@@ -4,6 +4,7 @@ pub mod Joins
 pub mod Chains
 pub mod Compartments
 pub mod Tables
+pub mod Breaks
 pub mod Pairs
 pub mod Unions
 pub mod Semilattices

@@ -14,6 +14,10 @@ join_in bytes n a b = slice_index bytes (a * n + b)
 abbrev pub joins_of : Square → ℕ → ℕ → ℕ
 joins_of s = join_in s.bytes.now s.levels
 
+-- what a square is made of: how many levels, and the bytes
+abbrev pub read_off : Square → ℕ × List ℕ
+read_off s = (s.levels, s.bytes.now)
+
 -- the order that the bytes of n levels stand for
 abbrev pub table : ℕ → List ℕ → Meaning
 table n bytes = by_join n (join_in bytes n)
@@ -46,7 +50,10 @@ repeats n j a = j 0 a == a && (j a a == a && every (exchanges n j a) n)
 abbrev pub semilattice : ℕ → (ℕ → ℕ → ℕ) → Bool
 semilattice n j = every (repeats n j) n
 
+-- what is found of the sizes: n is in range, and the bytes are n rows of n
+abbrev pub squared : ℕ → List ℕ → Verdict
+squared n bytes = and_then (sized 16 n) (rule (length bytes == n * n) 14 [])
+
 -- what filling a table finds: first the sizes, then the laws
 abbrev pub filling : ℕ → List ℕ → Verdict
-filling n bytes =
-    and_then (and_then (sized 16 n) (rule (length bytes == n * n) 14 [])) (rule (semilattice n (join_in bytes n)) 15 [])
+filling n bytes = and_then (squared n bytes) (rule (semilattice n (join_in bytes n)) 15 [])

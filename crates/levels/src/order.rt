@@ -26,3 +26,22 @@ pub trait Order {
     /// The meaning of every order keeps the laws.
     ghost lawful: { (o : Self) → Laws (meaning o) };
 }
+
+/// What refers to an order is the same order.
+impl<O: Order> Order for &O {
+    ghost meaning = { λ o. O.Order.meaning o.now };
+
+    ghost lawful = { λ o. O.Order.lawful o.now };
+
+    fn holds(&self, code: u16) -> bool {
+        (**self).holds(code)
+    }
+
+    fn flows(&self, a: u16, b: u16) -> bool {
+        (**self).flows(a, b)
+    }
+
+    fn join(&self, a: u16, b: u16) -> u16 {
+        (**self).join(a, b)
+    }
+}

@@ -20,6 +20,17 @@ pub trait Ranked: Order {
     ghost ranked: { (o : Self) → RankLaws (Self.Order.meaning o) (rank_of o) };
 }
 
+/// What refers to a ranked order is the same ranked order.
+impl<O: Ranked> Ranked for &O {
+    ghost rank_of = { λ o. O.Ranked.rank_of o.now };
+
+    ghost ranked = { λ o. O.Ranked.ranked o.now };
+
+    fn rank(&self, code: u16) -> u16 {
+        (**self).rank(code)
+    }
+}
+
 /// In every ranked order a level that is joined with another either stays, or its rank rises. The law stands in the contract;
 /// the call itself answers nothing.
 pub fn join_raises<O: Ranked>()

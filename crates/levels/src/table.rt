@@ -14,7 +14,7 @@ use crate::order::Order;
 use crate::ranked::Ranked;
 use crate::table::square::Square;
 
-mod square;
+pub mod square;
 
 /// Levels 0 to `levels` - 1, with the join of each two among `joins`, row by row.
 // A table has no heap, so it has room for the joins of 16 levels.
@@ -58,16 +58,12 @@ impl Table {
         ensures meaning { is_ok result ≡ true → table self.new.levels self.new.joins ≡ table levels bytes.now }
         ensures unchanged { is_err result ≡ true → self.new ≡ self.old }
     {
-        if !(1..=16).contains(&levels) || bytes.len() != levels * levels {
-            return Err(OrderFault::Size);
-        }
-        let levels = levels as u8;
-        let square = Square { levels, bytes };
-        if !square.is_semilattice() {
+        let square = Square::new(levels, bytes)?;
+        if square.broken_law().is_some() {
             return Err(OrderFault::Law);
         }
         *self = Table {
-            levels,
+            levels: square.levels,
             joins: padded(bytes),
         };
         Ok(())

@@ -1,10 +1,12 @@
 //! Orders, made as they are written.
-ghost use Rattle.std.specs.Prelude.{◌≡◌};
-ghost use Rattle.verdicts.specs.Verdict.{outcome};
+ghost use Rattle.std.specs.Prelude.{◌≡◌, [], is_some, Decides};
+ghost use Rattle.std.specs.Option.{option_map};
+ghost use Rattle.verdicts.specs.Verdict.{outcome, unmade, refusal};
 ghost use Rattle.levels.specs.Faults.{refusal_of};
 ghost use Rattle.orders.specs.Simples.{meaning_of};
 ghost use Rattle.orders.specs.Written.{form_of, written_of};
 ghost use Rattle.orders.specs.Making.{making_of, making_written, made_meaning, made_rank};
+ghost use Rattle.orders.specs.Broken.{broken_by_form, unmade_form, first_unmade};
 ghost use Rattle.orders.specs.declared.making.Made.TheVariants.{Simple, Pair};
 ghost use Rattle.levels.specs.Parts.{pair_laws};
 ghost use Rattle.levels.specs.PairRanks.{pair_ranks};
@@ -16,6 +18,7 @@ use levels::fault::OrderFault;
 use levels::order::Order;
 use levels::pair::Pair;
 use levels::ranked::Ranked;
+use levels::table::square::{BrokenLaw, Square};
 
 /// An order that was made.
 #[derive(Drop)]
@@ -83,6 +86,31 @@ impl SimpleText {
             SimpleText::Table { levels, bytes } => Simple::new_table(*levels, bytes.as_slice()),
         }
     }
+
+    /// The law that the join bytes of a table break first, with the codes; none of other orders, and none where a size is refused. There
+    /// is one if and only if the order is refused 15.
+    pub fn broken_law(&self) -> Option<BrokenLaw>
+        ensures first { result ≡ broken_by_form (form_of self.now) }
+        ensures refused { Decides (is_some result) (making_of (form_of self.now) ≡ unmade (refusal 15 [])) }
+    {
+        match self {
+            SimpleText::Chain(_) | SimpleText::Compartments(_) => None,
+            SimpleText::Table { levels, bytes } => {
+                let square = Square::new(usize::from(*levels), bytes.as_slice()).ok()?;
+                square.broken_law()
+            }
+        }
+    }
+
+    /// The order itself, where it is not made.
+    fn if_unmade(&self) -> Option<&SimpleText>
+        ensures { option_map (λ text. form_of text.now) result ≡ unmade_form (making_of (form_of self.now)) (form_of self.now) }
+    {
+        match self.make() {
+            Ok(_) => None,
+            Err(_) => Some(self),
+        }
+    }
 }
 
 impl OrderText {
@@ -97,6 +125,18 @@ impl OrderText {
                 let second = second.make()?;
                 Ok(Made::Pair(Pair::new(first, second)))
             }
+        }
+    }
+    /// The first part of the order that is not made, which decides the refusal; none where the order is made.
+    pub fn first_unmade(&self) -> Option<&SimpleText>
+        ensures { option_map (λ text. form_of text.now) result ≡ first_unmade (written_of self.now) }
+    {
+        match self {
+            OrderText::Simple(form) => form.if_unmade(),
+            OrderText::Pair(first, second) => match first.if_unmade() {
+                Some(first) => Some(first),
+                None => second.if_unmade(),
+            },
         }
     }
 }

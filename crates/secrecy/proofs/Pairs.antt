@@ -1,4 +1,4 @@
--- One step of two boards in step, at a word that is not high.
+-- One step of two low-equivalent boards, at a word that is not high.
 use Rattle.std.proofs.Common.{◌≡◌, ℕ, ◌+◌, ◌<◌, ◌≤◌, true, List, [], ◌∷◌, refl, arith, lt-ltb}
 use Rattle.machine.specs.Machine.{Kind, plain, forks, calls, rets, Positive}
 use Rattle.machine.specs.Run.{State, state, Step, moves, stops, landed, paid, step_at, step}

@@ -44,7 +44,7 @@ module _ {B V W : Type 0} (S : Setting B V W) where
       } in
       (cc, rw wu.1 near)
 
-  -- both come out, in step
+  -- both come out, low-equivalent
   meeting : (limit : ℕ) (u v s t : State B) (e f : Ending) → Good S u → Good S v → Diverged S u v → (a : Arrives S limit u s e) (b : Arrives S limit v t f) → Near S a.0 b.0
   meeting limit u v s t e f gu gv p a b =
       record {
@@ -73,7 +73,7 @@ module _ {B V W : Type 0} (S : Setting B V W) where
   diverged n limit later u v s t e f h gu gv p r q =
       apart n limit later u v s t e f h gu gv p (solo S limit u s e r gu.listed p.left) (solo S limit v t f q gv.listed p.right)
 
-  -- boards in step at a high word are diverged already
+  -- low-equivalent boards at a high word are diverged already
   diverges : (u v : State B) → Good S u → LowEquivalent S u.at u v → High S u.at → Diverged S u v
   diverges u v g i high = grind (arith, early S u.at g.listed high)
 

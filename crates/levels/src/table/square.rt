@@ -1,12 +1,47 @@
 //! The bytes of a table, and the test that decides its laws.
-ghost use Rattle.std.specs.Prelude.{◌≡◌, ◌+◌, ◌*◌};
-ghost use Rattle.levels.specs.Tables.{join_in, joins_of, every, regroups, exchanges, repeats, semilattice};
+ghost use Rattle.std.specs.Prelude.{◌≡◌, ◌+◌, ◌*◌, is_none};
+ghost use Rattle.verdicts.specs.Verdict.{outcome, making};
+ghost use Rattle.levels.specs.Faults.{refusal_of};
+ghost use Rattle.levels.specs.Tables.{join_in, joins_of, read_off, squared, semilattice};
+ghost use Rattle.levels.specs.Breaks.{least_answer, broken_by_three, broken_by_two, broken_by, broken_law};
+
+use crate::fault::OrderFault;
+
+/// A law that the joins of a table break, with the codes at which they do.
+#[derive(Clone, Copy, Debug, PartialEq, Eq)]
+pub enum BrokenLaw {
+    /// 0 is the neutral element: it joins with each code to that code.
+    Neutrality(u8),
+    /// A code joins with itself to itself.
+    Idempotence(u8),
+    /// Two codes join to a code.
+    Closure(u8, u8),
+    /// Two codes join to the same in either order.
+    Commutativity(u8, u8),
+    /// Three codes join to the same in either bracketing.
+    Associativity(u8, u8, u8),
+}
 
 /// Join bytes, read row by row: the byte at row a and column b is the join of a and b.
 #[derive(Clone, Copy)]
 pub struct Square<'b> {
     pub levels: u8,
     pub bytes: &'b [u8],
+}
+
+impl<'b> Square<'b> {
+    /// The square of 1 to 16 rows that the bytes are. Refused 14 where the size is out of range or the bytes are another number.
+    pub fn new(levels: usize, bytes: &'b [u8]) -> Result<Square<'b>, OrderFault>
+        ensures { outcome read_off refusal_of result ≡ making (squared levels bytes.now) (levels, bytes.now) }
+    {
+        if !(1..=16).contains(&levels) || bytes.len() != levels * levels {
+            return Err(OrderFault::Size);
+        }
+        Ok(Square {
+            levels: levels as u8,
+            bytes,
+        })
+    }
 }
 
 impl Square<'_> {
@@ -24,46 +59,80 @@ impl Square<'_> {
         self.bytes.get(self.place(a, b)).copied().unwrap_or(0)
     }
 
-    /// Whether three levels join alike however they are grouped.
-    fn can_regroup(&self, a: u8, b: u8, c: u8) -> bool
-        ensures { result ≡ regroups (joins_of self.now) a b c }
+    /// What two codes break with a third.
+    fn broken_by_three(&self, a: u8, b: u8, c: u8) -> Option<BrokenLaw>
+        ensures { result ≡ broken_by_three (joins_of self.now) a b c }
     {
-        self.join(self.join(a, b), c) == self.join(a, self.join(b, c))
+        let left = self.join(self.join(a, b), c);
+        let right = self.join(a, self.join(b, c));
+        (left != right).then_some(BrokenLaw::Associativity(a, b, c))
     }
 
-    /// Whether two levels can be regrouped with every third.
-    fn can_regroup_all(&self, a: u8, b: u8) -> bool
-        ensures { result ≡ every (regroups (joins_of self.now) a b) self.now.levels }
+    /// What two codes break first with a third.
+    #[tactic(auto, using(crate::proofs::Breaking::none_yet, crate::proofs::Breaking::none_more, crate::proofs::Breaking::answered, crate::proofs::Breaking::none_all))]
+    fn broken_with_thirds(&self, a: u8, b: u8) -> Option<BrokenLaw>
+        ensures { result ≡ least_answer (broken_by_three (joins_of self.now) a b) self.now.levels }
     {
-        (0..self.levels).all(|c| self.can_regroup(a, b, c))
+        for c in 0..self.levels {
+            if let Some(law) = self.broken_by_three(a, b, c) {
+                return Some(law);
+            }
+        }
+        None
     }
 
-    /// Whether two levels join to a level, alike in either order, and can be regrouped with every third.
-    fn can_exchange(&self, a: u8, b: u8) -> bool
-        ensures { result ≡ exchanges self.now.levels (joins_of self.now) a b }
+    /// What a code breaks with another, or the two with a third.
+    fn broken_by_two(&self, a: u8, b: u8) -> Option<BrokenLaw>
+        ensures { result ≡ broken_by_two self.now.levels (joins_of self.now) a b }
     {
         let ab = self.join(a, b);
-        ab < self.levels && ab == self.join(b, a) && self.can_regroup_all(a, b)
+        if ab >= self.levels {
+            return Some(BrokenLaw::Closure(a, b));
+        }
+        if ab != self.join(b, a) {
+            return Some(BrokenLaw::Commutativity(a, b));
+        }
+        self.broken_with_thirds(a, b)
     }
 
-    /// Whether a level can be exchanged with every other.
-    fn can_exchange_all(&self, a: u8) -> bool
-        ensures { result ≡ every (exchanges self.now.levels (joins_of self.now) a) self.now.levels }
+    /// What a code breaks first with another.
+    #[tactic(auto, using(crate::proofs::Breaking::none_yet, crate::proofs::Breaking::none_more, crate::proofs::Breaking::answered, crate::proofs::Breaking::none_all))]
+    fn broken_with_seconds(&self, a: u8) -> Option<BrokenLaw>
+        ensures { result ≡ least_answer (broken_by_two self.now.levels (joins_of self.now) a) self.now.levels }
     {
-        (0..self.levels).all(|b| self.can_exchange(a, b))
+        for b in 0..self.levels {
+            if let Some(law) = self.broken_by_two(a, b) {
+                return Some(law);
+            }
+        }
+        None
     }
 
-    /// Whether a level joins with 0 and with itself to itself, and can be exchanged with every other.
-    fn can_repeat(&self, a: u8) -> bool
-        ensures { result ≡ repeats self.now.levels (joins_of self.now) a }
+    /// What a code breaks alone or with others.
+    fn broken_by(&self, a: u8) -> Option<BrokenLaw>
+        ensures { result ≡ broken_by self.now.levels (joins_of self.now) a }
     {
-        self.join(0, a) == a && self.join(a, a) == a && self.can_exchange_all(a)
+        if self.join(0, a) != a {
+            return Some(BrokenLaw::Neutrality(a));
+        }
+        if self.join(a, a) != a {
+            return Some(BrokenLaw::Idempotence(a));
+        }
+        self.broken_with_seconds(a)
     }
 
-    /// Whether the joins are those of an order that keeps the laws.
-    pub(crate) fn is_semilattice(&self) -> bool
-        ensures { result ≡ semilattice self.now.levels (joins_of self.now) }
+    /// What the joins break first: the codes in ascending order, each first alone, then with a second and then with a third. Nothing if
+    /// and only if the joins are those of an order that keeps the laws.
+    #[tactic(auto, using(crate::proofs::Breaking::none_yet, crate::proofs::Breaking::none_more, crate::proofs::Breaking::answered, crate::proofs::Breaking::none_all))]
+    pub fn broken_law(&self) -> Option<BrokenLaw>
+        ensures first { result ≡ broken_law self.now.levels (joins_of self.now) }
+        ensures none { is_none result ≡ semilattice self.now.levels (joins_of self.now) }
     {
-        (0..self.levels).all(|a| self.can_repeat(a))
+        for a in 0..self.levels {
+            if let Some(law) = self.broken_by(a) {
+                return Some(law);
+            }
+        }
+        None
     }
 }
