@@ -52,8 +52,8 @@ impl Square<'_> {
         usize::from(a) * usize::from(self.levels) + usize::from(b)
     }
 
-    /// The join of two bytes: 0, past the last byte.
-    pub(crate) fn join(&self, a: u8, b: u8) -> u8
+    /// The join of two codes, as the bytes have it: 0, past the last byte.
+    pub fn join(&self, a: u8, b: u8) -> u8
         ensures { result ≡ join_in self.now.bytes.now self.now.levels a b }
     {
         self.bytes.get(self.place(a, b)).copied().unwrap_or(0)
