@@ -1,4 +1,4 @@
-//! The level that a next row would need.
+//! A level that would be enough in a next row.
 ghost use Rattle.std.specs.Prelude.{◌≡◌};
 ghost use Rattle.explanations.specs.Needs.{left_behind as left_behind_of, need_for};
 
@@ -8,7 +8,7 @@ use judge::faults::{FlowFault, JudgeFault};
 use levels::order::Order;
 use row_layout::REGION;
 
-/// A row, one of its columns, and the least level there that would do.
+/// A row, one of its columns, and a level that would be enough there.
 #[derive(Clone, Copy)]
 pub struct Need {
     pub row: u32,
@@ -17,8 +17,8 @@ pub struct Need {
 }
 
 impl Refusal<'_> {
-    /// The least level that the next row would need where a level does not flow on, by the order that the routine was judged by: what
-    /// the word leaves behind, joined with what the row says. None of other refusals.
+    /// A level that would be enough in the next row where a level does not flow on, by the order that the routine was judged by: what
+    /// the word leaves behind, joined with what the row says. It is the least at or above what the row says. None of other refusals.
     pub fn need<O: Order>(&self, order: &O) -> Option<Need>
         ensures { result ≡ need_for (O.Order.meaning order.now) self.now.routine self.now.fault }
     {

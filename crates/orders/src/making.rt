@@ -3,10 +3,11 @@ ghost use Rattle.std.specs.Prelude.{◌≡◌, [], is_some, Decides};
 ghost use Rattle.std.specs.Option.{option_map};
 ghost use Rattle.verdicts.specs.Verdict.{outcome, unmade, refusal};
 ghost use Rattle.levels.specs.Faults.{refusal_of};
+ghost use Rattle.levels.specs.Tables.{read_off};
 ghost use Rattle.orders.specs.Simples.{meaning_of};
 ghost use Rattle.orders.specs.Written.{form_of, written_of};
 ghost use Rattle.orders.specs.Making.{making_of, making_written, made_meaning, made_rank};
-ghost use Rattle.orders.specs.Broken.{broken_by_form, unmade_form, first_unmade};
+ghost use Rattle.orders.specs.Broken.{square_of, broken_by_form, unmade_form, first_unmade};
 ghost use Rattle.orders.specs.declared.making.Made.TheVariants.{Simple, Pair};
 ghost use Rattle.levels.specs.Parts.{pair_laws};
 ghost use Rattle.levels.specs.PairRanks.{pair_ranks};
@@ -93,12 +94,19 @@ impl SimpleText {
         ensures first { result ≡ broken_by_form (form_of self.now) }
         ensures refused { Decides (is_some result) (making_of (form_of self.now) ≡ unmade (refusal 15 [])) }
     {
+        self.square()?.broken_law()
+    }
+
+    /// The join bytes of a table as a square; none of other orders, and none where a size is refused.
+    pub fn square(&self) -> Option<Square<'_>>
+        ensures { option_map read_off result ≡ square_of (form_of self.now) }
+    {
         match self {
             SimpleText::Chain(_) | SimpleText::Compartments(_) => None,
-            SimpleText::Table { levels, bytes } => {
-                let square = Square::new(usize::from(*levels), bytes.as_slice()).ok()?;
-                square.broken_law()
-            }
+            SimpleText::Table { levels, bytes } => Square::new(
+                usize::from(*levels),
+                bytes.as_slice(),
+            ).ok(),
         }
     }
 

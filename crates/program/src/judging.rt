@@ -5,6 +5,8 @@ ghost use Rattle.std.specs.Option.{option_map};
 ghost use Rattle.verdicts.specs.Verdict.{says};
 ghost use Rattle.judge.specs.Faults.{judge_refusal};
 ghost use Rattle.judge.specs.Judgement.{judgement_of};
+ghost use Rattle.levels.specs.Pairs.{pair};
+ghost use Rattle.orders.specs.Simples.{meaning_of};
 ghost use Rattle.orders.specs.Making.{made_meaning};
 ghost use Rattle.routine.specs.Routines.{draft_of};
 ghost use Rattle.program.specs.Standings.{judges, accepted_under, judged_accepted, standing_if};
@@ -14,6 +16,8 @@ use crate::working::Job;
 use explanations::{ColumnName, Refusal};
 use judge::faults::JudgeFault;
 use judge::judge;
+use levels::order::Order;
+use levels::pair::Pair;
 use orders::making::Made;
 use orders::simple::Simple;
 use routine::Step;
@@ -85,7 +89,7 @@ impl Job<'_, '_> {
 }
 
 impl Job<'_, '_> {
-    /// Prints the least level that would do where a level does not flow on.
+    /// Prints a level that would do where a level does not flow on.
     fn print_need(self, rt: &HostRuntime, refusal: &Refusal<'_>) -> io::Result<()> {
         let Some(need) = self.order.and_then(|order| refusal.need(order)) else {
             return Ok(());
@@ -93,7 +97,7 @@ impl Job<'_, '_> {
         let label = refusal.label(need.row);
         let column = ColumnName(need.column);
         let level = need.level;
-        println!(rt; "  {label} needs {column}={level} at least")
+        println!(rt; "  {column}={level} in {label} is enough for this way")
     }
 
     /// Prints on which lines of the file the word and the rows stand that a refusal is about.
@@ -147,6 +151,38 @@ fn judge_by(words: &[u16], rows: &[u16], order: &Made) -> Result<(), JudgeFault>
         Made::Simple(Simple::Chain(order)) => judge(words, rows, order),
         Made::Simple(Simple::Compartments(order)) => judge(words, rows, order),
         Made::Simple(Simple::Table(order)) => judge(words, rows, order),
-        Made::Pair(order) => judge(words, rows, order),
+        Made::Pair(order) => judge_by_pair(words, rows, &order.first, &order.second),
+    }
+}
+
+/// Judges words and rows by a pair of two orders of a simple kind.
+fn judge_by_pair(
+    words: &[u16],
+    rows: &[u16],
+    first: &Simple,
+    second: &Simple,
+) -> Result<(), JudgeFault>
+    ensures { says judge_refusal result ≡ judgement_of (pair (meaning_of first.now) (meaning_of second.now)) words.now rows.now }
+{
+    match first {
+        Simple::Chain(first) => judge_by_first(words, rows, first, second),
+        Simple::Compartments(first) => judge_by_first(words, rows, first, second),
+        Simple::Table(first) => judge_by_first(words, rows, first, second),
+    }
+}
+
+/// Judges words and rows by a pair of an order and one of a simple kind.
+fn judge_by_first<O: Order>(
+    words: &[u16],
+    rows: &[u16],
+    first: &O,
+    second: &Simple,
+) -> Result<(), JudgeFault>
+    ensures { says judge_refusal result ≡ judgement_of (pair (O.Order.meaning first.now) (meaning_of second.now)) words.now rows.now }
+{
+    match second {
+        Simple::Chain(second) => judge(words, rows, &Pair { first, second }),
+        Simple::Compartments(second) => judge(words, rows, &Pair { first, second }),
+        Simple::Table(second) => judge(words, rows, &Pair { first, second }),
     }
 }

@@ -6,6 +6,7 @@ ghost use Rattle.orders.specs.Making.{made_meaning};
 ghost use Rattle.program.specs.Standings.{named_meaning};
 
 use levels::fault::OrderFault;
+use levels::table::square::{BrokenLaw, Square};
 use orders::making::Made;
 use orders::written::{OrderText, SimpleText};
 use std::{fmt, io};
@@ -51,12 +52,57 @@ impl fmt::Display for Unmade<'_> {
                     "a table has 1 to 16 levels and the square of that in join bytes, and this one has {levels} and {len}"
                 )
             }
-            (OrderFault::Law, _) => f.write_str(
-                "the join bytes are no order
-  each byte must be a level
-  0 joined with a must give a, and so must a joined with a
-  neither turning nor regrouping may matter",
-            ),
+            (OrderFault::Law, text) => explain_law(f, text),
+        }
+    }
+}
+
+/// Which law the join bytes of a table break first, and at which codes.
+fn explain_law<W: fmt::Write>(f: &mut fmt::Formatter<W>, text: &SimpleText) -> fmt::Result {
+    f.write_str("the join bytes are no order")?;
+    if let Some(law) = text.broken_law()
+        && let Some(square) = text.square()
+    {
+        let breach = Breach { law, square };
+        write!(f, "\n  {breach}")?;
+    }
+    Ok(())
+}
+
+/// A law that the joins of a square break, with what its codes join to.
+#[derive(Clone, Copy)]
+struct Breach<'a> {
+    law: BrokenLaw,
+    square: Square<'a>,
+}
+
+impl fmt::Display for Breach<'_> {
+    fn fmt<W: fmt::Write>(&self, f: &mut fmt::Formatter<W>) -> fmt::Result {
+        let square = self.square;
+        match self.law {
+            BrokenLaw::Neutrality(a) => {
+                let joined = square.join(0, a);
+                write!(f, "0 is neutral: the join of 0 and {a} must be {a}, and it is {joined}")
+            }
+            BrokenLaw::Idempotence(a) => {
+                let joined = square.join(a, a);
+                write!(f, "joins are idempotent: the join of {a} and {a} must be {a}, and it is {joined}")
+            }
+            BrokenLaw::Closure(a, b) => {
+                let joined = square.join(a, b);
+                let levels = square.levels;
+                write!(f, "joins are levels: the join of {a} and {b} must be below {levels}, and it is {joined}")
+            }
+            BrokenLaw::Commutativity(a, b) => {
+                let joined = square.join(a, b);
+                let turned = square.join(b, a);
+                write!(f, "joins are commutative: the join of {a} and {b} is {joined}, and that of {b} and {a} is {turned}")
+            }
+            BrokenLaw::Associativity(a, b, c) => {
+                let first = square.join(square.join(a, b), c);
+                let last = square.join(a, square.join(b, c));
+                write!(f, "joins are associative: {a} and {b} joined, and then {c}, is {first}; {a} joined with the join of {b} and {c} is {last}")
+            }
         }
     }
 }
@@ -81,10 +127,13 @@ pub(crate) fn print_order(rt: &HostRuntime, text: Option<&OrderText>) -> io::Res
     }
 }
 
-/// Prints why an order is refused: what is wrong with its first part that cannot be made.
+/// Prints why an order is refused: what is wrong with its first part that is not made.
 fn print_fault(rt: &HostRuntime, text: &OrderText, fault: OrderFault) -> io::Result<()> {
-    match first_unmade(text, fault) {
-        Some(unmade) => println!(rt; "{unmade}"),
+    match text.first_unmade() {
+        Some(text) => {
+            let unmade = Unmade { text, fault };
+            println!(rt; "{unmade}")
+        }
         // Not met, since a part is refused; but that is no fact of this function.
         None => {
             let number = fault.number();
@@ -106,20 +155,6 @@ fn print_name(rt: &HostRuntime, text: &OrderText) -> io::Result<()> {
             print!(rt; "order pair {first} {second}: ")
         }
     }
-}
-
-/// The first part of an order that is refused, and why, where the order is refused for `fault`.
-fn first_unmade(text: &OrderText, fault: OrderFault) -> Option<Unmade<'_>> {
-    match text {
-        OrderText::Simple(text) => Some(Unmade { text, fault }),
-        OrderText::Pair(first, second) => why_unmade(first).or_else(|| why_unmade(second)),
-    }
-}
-
-/// Why an order of a simple kind is refused, if it is.
-fn why_unmade(text: &SimpleText) -> Option<Unmade<'_>> {
-    let fault = text.make().err()?;
-    Some(Unmade { text, fault })
 }
 
 /// Prints which codes an order holds.
