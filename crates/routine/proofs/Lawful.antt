@@ -1,10 +1,12 @@
 -- The laws of reading. Assumes nothing.
-use Rattle.std.proofs.Common.{◌≡◌, ℕ, ◌+◌, List, [], ◌∷◌, ◌++◌, map, length, Ok, Err, Result, refl, ◌∙◌, arith}
+use Rattle.std.proofs.Common.{◌≡◌, ℕ, ◌+◌, List, [], ◌∷◌, ◌++◌, map, length, take, Ok, Err, Result, nat_lt, refl, ◌∙◌, arith}
+use Rattle.routine.specs.Quotes.{quote_of, quoted, is_cut}
 use Rattle.routine.specs.Gathered.{gathered}
 use Rattle.routine.specs.Operands.{word_of, byte_of}
 use Rattle.routine.specs.Routines.{Draft}
 use Rattle.routine.specs.Files.{lines_from}
 use Rattle.routine.specs.Laws.{ReadingStands}
+use Rattle.routine.proofs.Quoting.{shown}
 use Rattle.routine.proofs.Turns.{lines_wrong}
 
 module _ {X Y E : Type 0} (reads : X → Result Y E) where
@@ -25,6 +27,14 @@ unfolding lines_from
 onward n [] more d e h = grind arith
 onward n (line ∷ lines) more d e h = grind (arith, λ (c : Draft). onward (n + 1) lines more c e)
 
+front_shown : (token : List ℕ) → quoted (quote_of token) ≡ take 32 token
+unfolding quote_of
+front_shown token = shown 32 token
+
+rest_told : (token : List ℕ) → is_cut (quote_of token) ≡ nat_lt 32 (length token)
+unfolding quote_of
+rest_told token = refl
+
 pub reading_law : ReadingStands
 reading_law = record {
   words = record { all = all word_of; first = first word_of };
@@ -33,4 +43,5 @@ reading_law = record {
     onward = onward;
     first = λ n lines bad more d e wrong read bad-read. onward n lines (bad ∷ more) d e read ∙ lines_wrong (n + length lines) (bad ∷ more) e bad more refl wrong bad-read;
   };
+  quotes = record { shown = front_shown; cut = rest_told };
 }

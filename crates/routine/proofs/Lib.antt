@@ -1,3 +1,4 @@
+pub mod Quoting
 pub mod Gathering
 pub mod Bytes
 pub mod Turns

@@ -3,6 +3,7 @@ use Rattle.std.specs.Prelude.{◌≡◌, ℕ, List, Ok, Err, Result}
 use Rattle.text.specs.declared.cursors.Line.{Line}
 use Rattle.text.specs.Lines.{lines_of}
 use Rattle.text.specs.Tokens.{tokens_left}
+use Rattle.routine.specs.declared.faults.Expected.{Expected}
 use Rattle.routine.specs.declared.faults.Fault.{Fault}
 use Rattle.routine.specs.declared.faults.Fault.TheVariants as fault
 use Rattle.routine.specs.declared.faults.FileFault.{FileFault}
@@ -33,8 +34,8 @@ Finds view (Ok a) says line rest = says (tokens_left line) ≡ Ok (view a, token
 Finds view (Err m) says line rest = says (tokens_left line) ≡ Err m
 
 -- what calls answer for a token is what it says
-abbrev pub Says : {A : Type 0} → (List ℕ → Result A Malformed → Type 0) → (List ℕ → Result A Malformed) → Type 0
-Says {A} answers says = (token : List ℕ) (r : Result A Malformed) → answers token r → r ≡ says token
+abbrev pub Says : {A : Type 0} → (List ℕ → Result A Expected → Type 0) → (List ℕ → Result A Expected) → Type 0
+Says {A} answers says = (token : List ℕ) (r : Result A Expected) → answers token r → r ≡ says token
 
 -- what a routine becomes is what is made of it
 abbrev pub Makes : Result (Unit {0}) Fault → Routine → Routine → (Draft → Result Draft Malformed) → Type 0

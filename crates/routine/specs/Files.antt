@@ -4,8 +4,9 @@ use Rattle.text.specs.declared.checking.BadByte as checking
 use Rattle.text.specs.Lines.{lines_of}
 use Rattle.text.specs.Tokens.{tokens_of}
 use Rattle.text.specs.Refusals.{checked}
+use Rattle.routine.specs.declared.faults.Expected.TheVariants.{Text, Words}
+use Rattle.routine.specs.declared.faults.Found.TheVariants.{Byte, EndOfFile}
 use Rattle.routine.specs.declared.faults.Malformed.{Malformed}
-use Rattle.routine.specs.declared.faults.Malformed.TheVariants.{BadByte, NoWords}
 use Rattle.routine.specs.Statements.{line_of}
 use Rattle.routine.specs.Routines.{Draft, nothing, stepped}
 
@@ -29,7 +30,7 @@ lines_from n (line ∷ lines) d = goes_on n (after_line n d line) (lines_from (n
 
 -- a file whose lines give no word lacks them at its end
 abbrev pub words_in : ℕ → Draft → List ℕ → Given
-words_in end d [] = Err (end, NoWords)
+words_in end d [] = Err (end, record { expected = Words; found = EndOfFile })
 words_in end d (w ∷ ws) = Ok d
 
 -- and so for what the lines gave
@@ -40,7 +41,7 @@ some_words end (Err wrong) = Err wrong
 -- bytes that are not text come before all else
 abbrev pub text_only : Result (Unit {0}) checking.BadByte → Given → Given
 text_only (Ok fine) given = given
-text_only (Err bad) given = Err (bad.line, BadByte bad.byte)
+text_only (Err bad) given = Err (bad.line, record { expected = Text; found = Byte bad.byte })
 
 -- what a file gives
 abbrev pub routine_of : List ℕ → Given

@@ -1,3 +1,6 @@
+pub mod Filled
+pub mod Quotes
+pub mod Faults
 pub mod Keywords
 pub mod Gathered
 pub mod Operands

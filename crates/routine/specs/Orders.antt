@@ -3,10 +3,11 @@ use Rattle.std.specs.Prelude.{ℕ, cond, List, [], ◌∷◌, is_some, Ok, Err, 
 use Rattle.std.specs.Option.{ok_or}
 use Rattle.std.specs.Result.{result_map_both}
 use Rattle.orders.specs.Written.{Form, Written, chain, compartments, table, one, pair}
+use Rattle.routine.specs.declared.faults.Expected.TheVariants as expected
 use Rattle.routine.specs.declared.faults.Malformed.{Malformed}
-use Rattle.routine.specs.declared.faults.Malformed.TheVariants.{NoOrderKind}
 use Rattle.routine.specs.declared.keywords.Kind.{Kind}
 use Rattle.routine.specs.declared.keywords.Kind.TheVariants as kind
+use Rattle.routine.specs.Faults.{missing}
 use Rattle.routine.specs.Keywords.{kind_of, names_pair}
 use Rattle.routine.specs.Gathered.{gathered}
 use Rattle.routine.specs.Operands.{Tokens, Read, and_next, whole, one_token, number_in, byte_of}
@@ -33,7 +34,7 @@ form_in kind.Table tokens = and_next (number_in 0xFFFF tokens) (λ n rest. and_n
 
 -- an order of one kind
 abbrev pub simple_in : Tokens → Read Form
-simple_in tokens = and_next (one_token NoOrderKind (λ token. ok_or (kind_of token) NoOrderKind) tokens) form_in
+simple_in tokens = and_next (one_token expected.Order (λ token. ok_or (kind_of token) expected.Order) tokens) form_in
 
 -- two orders of one kind each
 abbrev pub pair_in : Tokens → Read Written
@@ -45,5 +46,5 @@ one_in tokens = and_next (simple_in tokens) (λ form rest. Ok (one form, rest))
 
 -- what stands behind the keyword `order`
 abbrev pub order_of : Tokens → Result Written Malformed
-order_of [] = Err NoOrderKind
+order_of [] = Err (missing expected.Order)
 order_of (token ∷ tokens) = whole (cond (names_pair token) (pair_in tokens) (one_in (token ∷ tokens)))

@@ -1,18 +1,21 @@
 -- What statements make of a routine, one after the other. Assumes nothing.
-use Rattle.std.specs.Prelude.{ℕ, ◌*◌, Bool, true, false, cond, not, ◌&&◌, ◌||◌, List, [], ◌∷◌, ◌++◌, length, Some, None, Ok, Err, vec_items, Option, Result, ◌==◌}
+use Rattle.std.specs.Prelude.{ℕ, ◌*◌, Bool, true, false, cond, not, ◌||◌, List, [], ◌∷◌, ◌++◌, length, Some, None, Ok, Err, vec_items, Option, Result, ◌==◌}
 use Rattle.std.specs.Option as options
 use Rattle.std.specs.Result as results
 use Rattle.orders.specs.Written.{Written, written_of}
+use Rattle.routine.specs.declared.faults.Expected.TheVariants.{Sequence, OneOrder, OrderBefore, OneForm}
 use Rattle.routine.specs.declared.faults.Malformed.{Malformed}
-use Rattle.routine.specs.declared.faults.Malformed.TheVariants.{Misplaced, SecondOrder, NoOrder, MixedRows}
+use Rattle.routine.specs.declared.keywords.Keyword.{Keyword}
+use Rattle.routine.specs.declared.keywords.Keyword.TheVariants as keyword
 use Rattle.routine.specs.declared.routines.Routine.{Routine}
 use Rattle.routine.specs.declared.routines.RowForm.{RowForm}
 use Rattle.routine.specs.declared.routines.RowForm.TheVariants.{Plain, Sparse}
 use Rattle.routine.specs.declared.rows.Entry.{Entry}
 use Rattle.routine.specs.declared.rows.RowName.{RowName}
 use Rattle.routine.specs.declared.steps.Step.{Step}
+use Rattle.routine.specs.Faults.{misplaced}
 use Rattle.routine.specs.Rows.{width, number_of_row, rows_with}
-use Rattle.routine.specs.Steps.{needs_order}
+use Rattle.routine.specs.Steps.{needing_order}
 use Rattle.routine.specs.Stretches.{line_of}
 use Rattle.routine.specs.declared.stretches.Stretch.{Stretch}
 use Rattle.routine.specs.Statements as stated
@@ -78,7 +81,7 @@ started d = not (length d.steps == 0)
 abbrev pub plain_rows : ℕ → Draft → List ℕ → Option RowForm → Result Draft Malformed
 plain_rows line d ns None = Ok (with_numbers line d ns)
 plain_rows line d ns (Some Plain) = Ok (with_numbers line d ns)
-plain_rows line d ns (Some Sparse) = Err MixedRows
+plain_rows line d ns (Some Sparse) = Err (misplaced OneForm keyword.Rows)
 
 -- row number a has these values, and what is not named is 0
 abbrev pub with_row : ℕ → Draft → ℕ → List Entry → Draft
@@ -87,23 +90,29 @@ with_row line d a entries = with_rows d (rows_with (length d.words) a entries d.
 -- a row by name, where no rows were written in the other form
 abbrev pub sparse_row : ℕ → Draft → RowName → List Entry → Option RowForm → Result Draft Malformed
 sparse_row line d name entries None = results.result_map_both (λ a. with_row line d a entries) (λ m. m) (number_of_row (length d.words) name)
-sparse_row line d name entries (Some Plain) = Err MixedRows
+sparse_row line d name entries (Some Plain) = Err (misplaced OneForm keyword.Row)
 sparse_row line d name entries (Some Sparse) = results.result_map_both (λ a. with_row line d a entries) (λ m. m) (number_of_row (length d.words) name)
 
 -- an order comes before the steps, and there is one at most
 abbrev pub ordered : Draft → Written → Result Draft Malformed
-ordered d w = cond (started d) (Err Misplaced) (cond (options.is_some d.order) (Err SecondOrder) (Ok (with_order d w)))
+ordered d w = cond (started d) (Err (misplaced Sequence keyword.Order)) (cond (options.is_some d.order) (Err (misplaced OneOrder keyword.Order)) (Ok (with_order d w)))
 
--- some steps need an order
+-- a keyword that needs an order must stand behind one
+abbrev pub behind_order : Option Keyword → Option Written → Draft → Result Draft Malformed
+behind_order (Some name) None d = Err (misplaced OrderBefore name)
+behind_order (Some name) (Some w) d = Ok d
+behind_order None order d = Ok d
+
+-- one step more, behind the order that it may need
 abbrev pub with_next : Draft → Step → Result Draft Malformed
-with_next d s = cond (needs_order s && not (options.is_some d.order)) (Err NoOrder) (Ok (with_step d s))
+with_next d s = behind_order (needing_order s) d.order (with_step d s)
 
 -- words come first, then rows and at most one order, then the steps; each statement stands on a line
 abbrev pub accepted : ℕ → Draft → Stated → Result Draft Malformed
-accepted line d (stated.words ws) = cond (options.is_some d.order || (rows_begun d.form || started d)) (Err Misplaced) (Ok (with_words line d ws))
+accepted line d (stated.words ws) = cond (options.is_some d.order || (rows_begun d.form || started d)) (Err (misplaced Sequence keyword.Words)) (Ok (with_words line d ws))
 accepted line d (stated.order w) = ordered d w
-accepted line d (stated.rows ns) = cond (started d) (Err Misplaced) (plain_rows line d ns d.form)
-accepted line d (stated.row name entries) = cond (started d) (Err Misplaced) (sparse_row line d name entries d.form)
+accepted line d (stated.rows ns) = cond (started d) (Err (misplaced Sequence keyword.Rows)) (plain_rows line d ns d.form)
+accepted line d (stated.row name entries) = cond (started d) (Err (misplaced Sequence keyword.Row)) (sparse_row line d name entries d.form)
 accepted line d (stated.step s) = with_next d s
 
 -- a line without a statement changes nothing

@@ -1,5 +1,5 @@
 -- How the rows of a routine are written by name. Assumes nothing.
-use Rattle.std.specs.Prelude.{ℕ, ◌+◌, ◌-◌, ◌*◌, cond, List, [], ◌∷◌, ◌++◌, length, take, replicate, Some, None, Ok, Err, codes, Option, Result, nat_lt, slice_set}
+use Rattle.std.specs.Prelude.{ℕ, ◌+◌, ◌*◌, cond, List, [], ◌∷◌, Some, None, Ok, Err, codes, Option, Result, nat_lt, slice_set}
 use Rattle.std.specs.Result as results
 use Rattle.std.specs.Str.{bytes_eq}
 use Rattle.text.specs.Numbers.{number_of, limited}
@@ -7,14 +7,18 @@ use Rattle.text.specs.Refusals.{assigned}
 use Rattle.row_layout.specs.declared.layout.Column.{Column}
 use Rattle.row_layout.specs.declared.layout.Column.TheVariants as column
 use Rattle.row_layout.specs.Columns.{index_of}
+use Rattle.routine.specs.declared.faults.Expected.{Expected}
+use Rattle.routine.specs.declared.faults.Expected.TheVariants as expected
+use Rattle.routine.specs.declared.faults.Found.TheVariants as found
 use Rattle.routine.specs.declared.faults.Malformed.{Malformed}
-use Rattle.routine.specs.declared.faults.Malformed.TheVariants.{NoRow, NoAssignment, NoColumn}
 use Rattle.routine.specs.declared.rows.Entry.{Entry}
 use Rattle.routine.specs.declared.rows.RowName.{RowName}
 use Rattle.routine.specs.declared.rows.RowName.TheVariants.{Address, Finish}
+use Rattle.routine.specs.Faults.{quoting}
+use Rattle.routine.specs.Filled.{filled_to}
 use Rattle.routine.specs.Gathered.{gathered}
 use Rattle.routine.specs.Keywords.{named}
-use Rattle.routine.specs.Operands.{Tokens, Read, digits_of_register, number_as, word_of, one_token}
+use Rattle.routine.specs.Operands.{Tokens, Read, digits_of_register, number_as, one_token}
 
 -- a row has 39 numbers
 abbrev pub width : ℕ
@@ -35,40 +39,40 @@ column_by_own_name =
     )
 
 -- a register is named by `r` and its number, from 0 to 31
-abbrev pub register_in : Option (List ℕ) → Result Column Malformed
-register_in None = Err NoColumn
-register_in (Some digits) = results.result_map_both column.Register (λ f. NoColumn) (limited 31 (number_of digits))
+abbrev pub register_in : Option (List ℕ) → Result Column Expected
+register_in None = Err expected.Column
+register_in (Some digits) = results.result_map_both column.Register (λ f. expected.Column) (limited 31 (number_of digits))
 
 -- a name of its own comes first
-abbrev pub column_by : Option Column → List ℕ → Result Column Malformed
-column_by (Some found) name = Ok found
+abbrev pub column_by : Option Column → List ℕ → Result Column Expected
+column_by (Some own) name = Ok own
 column_by None name = register_in (digits_of_register name)
 
 -- the column of a name
-unfoldable pub column_by_name : List ℕ → Result Column Malformed
+unfoldable pub column_by_name : List ℕ → Result Column Expected
 column_by_name name = column_by (column_by_own_name name) name
 
 -- what `name=value` says: the value of a column
-abbrev pub value_of : Result Column Malformed → List ℕ → Result Entry Malformed
-value_of (Err m) value = Err m
-value_of (Ok found) value = results.result_map_both (λ n. record { column = found; value = n }) (λ m. m) (word_of value)
+abbrev pub value_of : Result Column Expected → List ℕ → Result Entry Expected
+value_of (Err something) value = Err something
+value_of (Ok c) value = results.result_map_both (λ n. record { column = c; value = n }) (λ e. e) (number_as 0xFFFF value)
 
 -- the name and the value of an assignment, if the token is one
-abbrev pub entry_by : Option (List ℕ × List ℕ) → Result Entry Malformed
-entry_by None = Err NoAssignment
+abbrev pub entry_by : Option (List ℕ × List ℕ) → Result Entry Expected
+entry_by None = Err expected.Assignment
 entry_by (Some p) = value_of (column_by_name p.0) p.1
 
 -- what one token gives a row
-unfoldable pub entry_of : List ℕ → Result Entry Malformed
+unfoldable pub entry_of : List ℕ → Result Entry Expected
 entry_of token = entry_by (assigned token)
 
 -- which row: that of an address, or the finish row
-unfoldable pub row_by_token : List ℕ → Result RowName Malformed
-row_by_token token = cond (bytes_eq token (codes "finish")) (Ok Finish) (results.result_map_both Address (λ m. NoRow) (number_as 0xFFFF token))
+unfoldable pub row_by_token : List ℕ → Result RowName Expected
+row_by_token token = cond (bytes_eq token (codes "finish")) (Ok Finish) (results.result_map_both Address (λ e. expected.Row) (number_as 0xFFFF token))
 
 -- what stands behind the keyword `row`: the row, and values of columns
 abbrev pub with_entries : RowName → Tokens → Result (RowName × List Entry) Malformed
-with_entries name tokens = results.result_map_both (λ entries. (name, entries)) (λ m. m) (gathered entry_of tokens)
+with_entries name tokens = results.result_map_both (λ entries. (name, entries)) (λ m. m) (gathered (quoting entry_of) tokens)
 
 -- the row, and then its values
 abbrev pub row_by : Read RowName → Result (RowName × List Entry) Malformed
@@ -77,16 +81,12 @@ row_by (Ok p) = with_entries p.0 p.1
 
 -- what the operands of `row` say
 abbrev pub row_of : Tokens → Result (RowName × List Entry) Malformed
-row_of tokens = row_by (one_token NoRow row_by_token tokens)
+row_of tokens = row_by (one_token expected.Row row_by_token tokens)
 
 -- the number of a row, of n words: the finish row comes last
 abbrev pub number_of_row : ℕ → RowName → Result ℕ Malformed
-number_of_row n (Address a) = cond (nat_lt a n) (Ok a) (Err NoRow)
+number_of_row n (Address a) = cond (nat_lt a n) (Ok a) (Err (record { expected = expected.Row; found = found.Address a }))
 number_of_row n Finish = Ok n
-
--- numbers, followed by zeros, up to a length
-abbrev pub filled_to : ℕ → List ℕ → List ℕ
-filled_to size rows = take size rows ++ replicate (size - length rows) 0
 
 -- values written into the row that begins at `start`, one after the other
 abbrev pub written_at : ℕ → List Entry → List ℕ → List ℕ

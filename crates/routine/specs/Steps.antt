@@ -1,5 +1,7 @@
 -- What is to be done with a routine. Assumes nothing.
-use Rattle.std.specs.Prelude.{ℕ, Bool, true, false, [], ◌∷◌, Ok}
+use Rattle.std.specs.Prelude.{ℕ, [], ◌∷◌, Some, None, Ok, Option}
+use Rattle.routine.specs.declared.keywords.Keyword.{Keyword}
+use Rattle.routine.specs.declared.keywords.Keyword.TheVariants as keyword
 use Rattle.routine.specs.declared.steps.Step.{Step}
 use Rattle.routine.specs.declared.steps.Step.TheVariants as step
 use Rattle.machine.specs.declared.call.Call.{Call}
@@ -8,11 +10,11 @@ use Rattle.avr.specs.declared.location.Location.{Location}
 use Rattle.routine.specs.Operands as operands
 use Rattle.routine.specs.Operands.{Tokens, and_next, number_in, place_in}
 
--- to judge and to join need an order, and a call on the boards does not
-abbrev pub needs_order : Step → Bool
-needs_order step.Judge = true
-needs_order (step.Join first second) = true
-needs_order (step.Call call) = false
+-- the keyword of a step that needs an order: to judge and to join do, and a call on the boards does not
+abbrev pub needing_order : Step → Option Keyword
+needing_order step.Judge = Some keyword.Judge
+needing_order (step.Join first second) = Some keyword.Join
+needing_order (step.Call call) = None
 
 -- a second byte, if one is written, and else the first one again
 abbrev pub second_byte : ℕ → Tokens → operands.Read ℕ

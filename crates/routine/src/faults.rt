@@ -1,61 +1,135 @@
 //! What is wrong with a routine file, in words that its maker understands.
 ghost use Rattle.std.specs.Prelude.{◌≡◌};
+ghost use Rattle.routine.specs.Faults.{missing, wrong, misplaced};
 ghost use Rattle.routine.specs.declared.faults.Fault.TheVariants as fault;
 
+use crate::keywords::Keyword;
+use crate::quotes::Quote;
 use std::alloc::{AllocError, AllocFailed};
+use std::fmt;
 use thiserror::Error;
+
+/// What is expected in a file.
+#[derive(Clone, Copy, Debug, Error)]
+pub enum Expected {
+    /// A keyword, at the beginning of a line.
+    #[error("a keyword: words, order, rows, row, judge, join, clear, put, run or read")]
+    Keyword,
+    /// An operand, behind a keyword that takes any number of them.
+    #[error("at least one operand after the keyword")]
+    Operand,
+    /// A token that writes a number from 0 to `most`.
+    #[error("a number from 0 to {most}, in decimal or after 0x")]
+    Number { most: u32 },
+    /// A number that is at most `most`.
+    #[error("a number from 0 to {most}")]
+    AtMost { most: u32 },
+    /// A byte that is text.
+    #[error("text")]
+    Text,
+    /// A statement of words, in a file that has none.
+    #[error("a statement of words")]
+    Words,
+    /// The end of a statement, where all its operands are read.
+    #[error("the end of the line")]
+    EndOfLine,
+    /// A kind of order.
+    #[error("an order: chain, compartments or table, or pair and two of these")]
+    Order,
+    /// A place.
+    #[error("a register, r0 to r255, or an address of the memory, 0 to 65535")]
+    Place,
+    /// A statement that may stand behind those above it.
+    #[error("words first, then order and rows, and then judge, join and the calls")]
+    Sequence,
+    /// No second order.
+    #[error("one order at most")]
+    OneOrder,
+    /// An order, above a statement that asks it.
+    #[error("an order before judge and join")]
+    OrderBefore,
+    /// A row that there is.
+    #[error("the address of one of the words, or finish")]
+    Row,
+    /// A token that gives a value to a name.
+    #[error("a name, = and a value, as r16=1")]
+    Assignment,
+    /// The name of a column.
+    #[error("a name of a row: r0 to r31, c, z, memory, region, join, remaining or function")]
+    Column,
+    /// Rows in the form of those above them.
+    #[error("all rows by rows, or all of them by row")]
+    OneForm,
+}
+
+/// What stands there instead.
+#[derive(Clone, Copy, Debug)]
+pub enum Found {
+    /// The end of the line.
+    EndOfLine,
+    /// The end of the file.
+    EndOfFile,
+    /// A byte.
+    Byte(u8),
+    /// A token.
+    Token(Quote),
+    /// A statement that begins with a keyword.
+    Statement(Keyword),
+    /// The address of a row.
+    Address(u16),
+}
+
+impl fmt::Display for Found {
+    fn fmt<W: fmt::Write>(&self, f: &mut fmt::Formatter<W>) -> fmt::Result {
+        match *self {
+            Found::EndOfLine => f.write_str("the end of the line"),
+            Found::EndOfFile => f.write_str("the end of the file"),
+            Found::Byte(byte) => write!(f, "the byte 0x{byte:02X}"),
+            Found::Token(quote) => write!(f, "{quote}"),
+            Found::Statement(keyword) => write!(f, "`{}`", keyword.name()),
+            Found::Address(address) => write!(f, "the address {address}"),
+        }
+    }
+}
 
 /// What is wrong with a line.
 #[derive(Clone, Copy, Debug, Error)]
-pub enum Malformed {
-    /// It begins with no keyword.
-    #[error("expected a keyword: words, order, rows, row, judge, join, clear, put, run or read")]
-    UnknownStatement,
-    /// Its statement ends where one operand at least is expected.
-    #[error("expected at least one operand after the keyword")]
-    NoOperands,
-    /// A token writes no number where one from 0 to `most` is expected.
-    #[error("expected a number from 0 to {most}, in decimal or after 0x")]
-    NoNumber { most: u32 },
-    /// A token writes a number above `most`.
-    #[error("expected a number from 0 to {most}")]
-    TooLarge { most: u32 },
-    /// It holds a byte that is not text.
-    #[error("expected text, not the byte 0x{0:02X}")]
-    BadByte(u8),
-    /// The file ends here and has no words.
-    #[error("expected a statement of words before the end of the file")]
-    NoWords,
-    /// Its statement goes on where its end is expected.
-    #[error("expected the end of the line")]
-    Excess,
-    /// No kind of order stands where one is expected.
-    #[error("expected an order: chain, compartments or table, or pair and two of these")]
-    NoOrderKind,
-    /// A token names no place where one is expected.
-    #[error("expected a register, r0 to r255, or an address of the memory, 0 to 65535")]
-    NoPlace,
-    /// Its statement stands behind one that it should stand before.
-    #[error("expected words first, then order and rows, and then judge, join and the calls")]
-    Misplaced,
-    /// It names an order, and one was named already.
-    #[error("expected one order at most")]
-    SecondOrder,
-    /// It judges or joins, and no order was named.
-    #[error("expected an order before judge and join")]
-    NoOrder,
-    /// No row stands where one is expected.
-    #[error("expected the address of one of the words, or finish")]
-    NoRow,
-    /// A token gives no value to a name.
-    #[error("expected a name, = and a value, as r16=1")]
-    NoAssignment,
-    /// A token gives a value to a name that no column has.
-    #[error("expected a name of a row: r0 to r31, c, z, memory, region, join, remaining or function")]
-    NoColumn,
-    /// It writes rows in another form than lines before it.
-    #[error("expected all rows by rows, or all of them by row")]
-    MixedRows,
+#[error("expected {expected}, found {found}")]
+pub struct Malformed {
+    pub expected: Expected,
+    pub found: Found,
+}
+
+impl Malformed {
+    /// The line ends where something is expected.
+    pub(crate) fn missing(expected: Expected) -> Malformed
+        ensures { result ≡ missing expected }
+    {
+        Malformed {
+            expected,
+            found: Found::EndOfLine,
+        }
+    }
+
+    /// A token stands where something else is expected.
+    pub(crate) fn wrong(expected: Expected, token: &[u8]) -> Malformed
+        ensures { result ≡ wrong expected token.now }
+    {
+        Malformed {
+            expected,
+            found: Found::Token(Quote::new(token)),
+        }
+    }
+
+    /// A statement stands where something else is expected.
+    pub(crate) fn misplaced(expected: Expected, keyword: Keyword) -> Malformed
+        ensures { result ≡ misplaced expected keyword }
+    {
+        Malformed {
+            expected,
+            found: Found::Statement(keyword),
+        }
+    }
 }
 
 /// Why a line was not carried out.

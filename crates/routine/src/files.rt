@@ -6,7 +6,7 @@ ghost use Rattle.routine.specs.Routines.{draft_of};
 ghost use Rattle.routine.specs.Files.{after_line, routine_of};
 ghost use Rattle.routine.specs.Answers.{Blames, Makes, ReadsLines};
 
-use crate::faults::{Fault, FileFault, Malformed};
+use crate::faults::{Expected, Fault, FileFault, Found, Malformed};
 use crate::routines::Routine;
 use crate::statements::read_statement;
 use std::alloc::Global;
@@ -16,11 +16,11 @@ use text::{Line, Lines, is_text};
 pub fn read(heap: Global, file: &[u8]) -> Result<Routine, FileFault>
     ensures { MatchResult result (λ routine. routine_of file.now ≡ Ok (draft_of routine)) (λ f. Blames (λ m. (f.line, m)) f.fault (routine_of file.now)) }
 {
-    is_text(file).map_err(|bad| malformed(bad.line, Malformed::BadByte(bad.byte)))?;
+    is_text(file).map_err(|bad| malformed(bad.line, Expected::Text, Found::Byte(bad.byte)))?;
     let mut routine = Routine::new(heap);
     read_lines(heap, file, &mut routine)?;
     if routine.words.is_empty() {
-        return Err(malformed(count_lines(file) + 1, Malformed::NoWords));
+        return Err(malformed(count_lines(file) + 1, Expected::Words, Found::EndOfFile));
     }
     Ok(routine)
 }
@@ -63,11 +63,11 @@ fn read_line(
 }
 
 /// What is wrong at a line.
-fn malformed(line: usize, what: Malformed) -> FileFault
-    ensures { (result.line ≡ line) × (result.fault ≡ fault.Malformed what) }
+fn malformed(line: usize, expected: Expected, found: Found) -> FileFault
+    ensures { (result.line ≡ line) × (result.fault ≡ fault.Malformed (record { expected = expected; found = found })) }
 {
     FileFault {
         line,
-        fault: Fault::Malformed(what),
+        fault: Fault::Malformed(Malformed { expected, found }),
     }
 }

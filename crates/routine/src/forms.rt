@@ -4,7 +4,7 @@ ghost use Rattle.orders.specs.Written.{form_of, written_of};
 ghost use Rattle.routine.specs.Orders.{bytes_in, form_in, simple_in, pair_in, order_of};
 ghost use Rattle.routine.specs.Answers.{Answers, Reads};
 
-use crate::faults::{Fault, Malformed};
+use crate::faults::{Expected, Fault, Malformed};
 use crate::keywords::{Kind, is_pair};
 use crate::operands::{end, number_of, read_number};
 use orders::written::{OrderText, SimpleText};
@@ -20,7 +20,8 @@ fn read_bytes(heap: Global, line: &mut Line<'_>) -> Result<Vec<u8>, Fault>
     while let Some(token) = ahead.next()
         && Kind::from_token(token).is_none()
     {
-        bytes.push(number_of(token)?)?;
+        let byte = number_of(token).map_err(|expected| Malformed::wrong(expected, token))?;
+        bytes.push(byte)?;
         *line = ahead;
     }
     Ok(bytes)
@@ -48,8 +49,8 @@ fn read_form(heap: Global, kind: Kind, line: &mut Line<'_>) -> Result<SimpleText
 fn read_simple(heap: Global, line: &mut Line<'_>) -> Result<SimpleText, Fault>
     ensures { Reads form_of result simple_in line.old line.new }
 {
-    let token = line.next().ok_or(Malformed::NoOrderKind)?;
-    let kind = Kind::from_token(token).ok_or(Malformed::NoOrderKind)?;
+    let token = line.next().ok_or(Malformed::missing(Expected::Order))?;
+    let kind = Kind::from_token(token).ok_or(Malformed::wrong(Expected::Order, token))?;
     read_form(heap, kind, line)
 }
 
@@ -67,7 +68,7 @@ pub(crate) fn read_order(heap: Global, mut line: Line<'_>) -> Result<OrderText, 
     ensures { Answers written_of result order_of line.entry }
 {
     let mut ahead = line;
-    let token = ahead.next().ok_or(Malformed::NoOrderKind)?;
+    let token = ahead.next().ok_or(Malformed::missing(Expected::Order))?;
     if is_pair(token) {
         let order = read_pair(heap, &mut ahead)?;
         end(ahead)?;

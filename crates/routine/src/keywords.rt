@@ -1,9 +1,9 @@
 //! Keywords: the first token of a line says what kind of statement the line holds, and the first of an order what kind of order.
-ghost use Rattle.std.specs.Prelude.{◌≡◌};
+ghost use Rattle.std.specs.Prelude.{◌≡◌, Some};
 ghost use Rattle.routine.specs.Keywords.{keyword_of, kind_of, names_pair};
 
 /// The kinds of statements.
-#[derive(Clone, Copy)]
+#[derive(Clone, Copy, Debug)]
 pub enum Keyword {
     /// Words of the routine.
     Words,
@@ -53,6 +53,25 @@ impl Keyword {
             b"run" => Some(Keyword::Run),
             b"read" => Some(Keyword::Read),
             _ => None,
+        }
+    }
+
+    /// How the keyword is written.
+    #[tactic(auto, unfolding(crate::specs::Keywords::keyword_of))]
+    pub(crate) fn name(self) -> &'static str
+        ensures { keyword_of result.now ≡ Some self }
+    {
+        match self {
+            Keyword::Words => "words",
+            Keyword::Order => "order",
+            Keyword::Rows => "rows",
+            Keyword::Row => "row",
+            Keyword::Judge => "judge",
+            Keyword::Join => "join",
+            Keyword::Clear => "clear",
+            Keyword::Put => "put",
+            Keyword::Run => "run",
+            Keyword::Read => "read",
         }
     }
 }

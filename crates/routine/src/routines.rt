@@ -5,7 +5,8 @@ ghost use Rattle.routine.specs.Statements.{stated_of, words as said_words, rows 
 ghost use Rattle.routine.specs.Routines.{draft_of, nothing, started, word_line, row_line, ordered, with_row, with_next, accepted};
 ghost use Rattle.routine.specs.Answers.{Makes};
 
-use crate::faults::{Fault, Malformed};
+use crate::faults::{Expected, Fault, Malformed};
+use crate::keywords::Keyword;
 use crate::rows::{Entry, ROW_WIDTH, RowName, row_number, write_entries};
 use crate::statements::Statement;
 use crate::steps::Step;
@@ -96,7 +97,7 @@ impl Routine {
         ensures { Makes result self.old self.new (λ d. accepted line d (said_words words.items)) }
     {
         if self.order.is_some() || self.form.is_some() || self.has_started() {
-            return Err(Malformed::Misplaced.into());
+            return Err(Malformed::misplaced(Expected::Sequence, Keyword::Words).into());
         }
         let stretch = Stretch {
             first: self.words.len(),
@@ -113,10 +114,10 @@ impl Routine {
         ensures { Makes result self.old self.new (λ d. ordered d (written_of order)) }
     {
         if self.has_started() {
-            return Err(Malformed::Misplaced.into());
+            return Err(Malformed::misplaced(Expected::Sequence, Keyword::Order).into());
         }
         if self.order.is_some() {
-            return Err(Malformed::SecondOrder.into());
+            return Err(Malformed::misplaced(Expected::OneOrder, Keyword::Order).into());
         }
         self.order = Some(order);
         Ok(())
@@ -127,10 +128,10 @@ impl Routine {
         ensures { Makes result self.old self.new (λ d. accepted line d (said_rows numbers.items)) }
     {
         if self.has_started() {
-            return Err(Malformed::Misplaced.into());
+            return Err(Malformed::misplaced(Expected::Sequence, Keyword::Rows).into());
         }
         if matches!(self.form, Some(RowForm::Sparse)) {
-            return Err(Malformed::MixedRows.into());
+            return Err(Malformed::misplaced(Expected::OneForm, Keyword::Rows).into());
         }
         let stretch = Stretch {
             first: self.rows.len(),
@@ -148,10 +149,10 @@ impl Routine {
         ensures { Makes result self.old self.new (λ d. accepted line d (said_row name entries.items)) }
     {
         if self.has_started() {
-            return Err(Malformed::Misplaced.into());
+            return Err(Malformed::misplaced(Expected::Sequence, Keyword::Row).into());
         }
         if matches!(self.form, Some(RowForm::Plain)) {
-            return Err(Malformed::MixedRows.into());
+            return Err(Malformed::misplaced(Expected::OneForm, Keyword::Row).into());
         }
         let row = row_number(self.words.len(), name)?;
         self.write_row(line, row, entries.as_slice())
@@ -179,8 +180,10 @@ impl Routine {
     fn add_step(&mut self, step: Step) -> Result<(), Fault>
         ensures { Makes result self.old self.new (λ d. with_next d step) }
     {
-        if step.needs_order() && self.order.is_none() {
-            return Err(Malformed::NoOrder.into());
+        if let Some(keyword) = step.needing_order()
+            && self.order.is_none()
+        {
+            return Err(Malformed::misplaced(Expected::OrderBefore, keyword).into());
         }
         self.steps.push(step)?;
         Ok(())

@@ -5,7 +5,7 @@ ghost use Rattle.routine.specs.Gathered.{gathered};
 ghost use Rattle.routine.specs.Rows.{column_by_own_name, column_by_name, entry_of, row_by_token, row_of, number_of_row, written_at};
 ghost use Rattle.routine.specs.Answers.{Answers};
 
-use crate::faults::{Fault, Malformed};
+use crate::faults::{Expected, Fault, Found, Malformed};
 use crate::operands::{gather, number_of, register_digits};
 use row_layout::{COLUMNS, Column};
 use std::alloc::Global;
@@ -52,24 +52,24 @@ fn named_column(name: &[u8]) -> Option<Column>
 
 /// The column of this name.
 #[tactic(auto, unfolding(crate::specs::Rows::column_by_name))]
-fn column_of(name: &[u8]) -> Result<Column, Malformed>
+fn column_of(name: &[u8]) -> Result<Column, Expected>
     ensures { result ≡ column_by_name name.now }
 {
     if let Some(column) = named_column(name) {
         return Ok(column);
     }
-    let digits = register_digits(name).ok_or(Malformed::NoColumn)?;
+    let digits = register_digits(name).ok_or(Expected::Column)?;
     number(digits, LAST_REGISTER)
         .map(|register| Column::Register(register as u8))
-        .map_err(|_| Malformed::NoColumn)
+        .map_err(|_| Expected::Column)
 }
 
 /// The value of a column that a token gives.
 #[tactic(auto, unfolding(crate::specs::Rows::entry_of))]
-fn entry_of(token: &[u8]) -> Result<Entry, Malformed>
+fn entry_of(token: &[u8]) -> Result<Entry, Expected>
     ensures { result ≡ entry_of token.now }
 {
-    let (name, value) = assignment(token).ok_or(Malformed::NoAssignment)?;
+    let (name, value) = assignment(token).ok_or(Expected::Assignment)?;
     let column = column_of(name)?;
     let value = number_of(value)?;
     Ok(Entry { column, value })
@@ -77,7 +77,7 @@ fn entry_of(token: &[u8]) -> Result<Entry, Malformed>
 
 /// The row that a token names.
 #[tactic(auto, unfolding(crate::specs::Rows::row_by_token))]
-fn row_name_of(token: &[u8]) -> Result<RowName, Malformed>
+fn row_name_of(token: &[u8]) -> Result<RowName, Expected>
     ensures { result ≡ row_by_token token.now }
 {
     if token == b"finish".as_slice() {
@@ -85,15 +85,15 @@ fn row_name_of(token: &[u8]) -> Result<RowName, Malformed>
     }
     number_of(token)
         .map(RowName::Address)
-        .map_err(|_| Malformed::NoRow)
+        .map_err(|_| Expected::Row)
 }
 
 /// A row and values of its columns, behind the keyword `row`.
 pub fn read_row(heap: Global, mut line: Line<'_>) -> Result<(RowName, Vec<Entry>), Fault>
     ensures { Answers (λ p. (p.0, p.1.items)) result row_of line.entry }
 {
-    let token = line.next().ok_or(Malformed::NoRow)?;
-    let name = row_name_of(token)?;
+    let token = line.next().ok_or(Malformed::missing(Expected::Row))?;
+    let name = row_name_of(token).map_err(|expected| Malformed::wrong(expected, token))?;
     let entries = gather(heap, line, entry_of)?;
     Ok((name, entries))
 }
@@ -105,7 +105,10 @@ pub(crate) fn row_number(words: usize, name: RowName) -> Result<usize, Malformed
     match name {
         RowName::Address(address) => {
             let row = usize::from(address);
-            (row < words).then_some(row).ok_or(Malformed::NoRow)
+            (row < words).then_some(row).ok_or(Malformed {
+                expected: Expected::Row,
+                found: Found::Address(address),
+            })
         }
         RowName::Finish => Ok(words),
     }

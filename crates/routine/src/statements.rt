@@ -1,10 +1,9 @@
 //! The statement of one line.
 ghost use Rattle.std.specs.Option as options;
-ghost use Rattle.std.specs.Prelude.{Some};
 ghost use Rattle.routine.specs.Statements.{stated_of, statement_of, line_of};
 ghost use Rattle.routine.specs.Answers.{Answers};
 
-use crate::faults::{Fault, Malformed};
+use crate::faults::{Expected, Fault, Malformed};
 use crate::forms::read_order;
 use crate::keywords::Keyword;
 use crate::operands::{end, read_words};
@@ -38,14 +37,14 @@ pub fn read_statement(heap: Global, mut line: Line<'_>) -> Result<Option<Stateme
     let Some(token) = line.next() else {
         return Ok(None);
     };
-    let keyword = Keyword::from_token(token).ok_or(Malformed::UnknownStatement)?;
+    let keyword = Keyword::from_token(token).ok_or(Malformed::wrong(Expected::Keyword, token))?;
     let statement = read_operands(heap, keyword, line)?;
     Ok(Some(statement))
 }
 
 /// The statement of a keyword, by the tokens behind it.
 fn read_operands(heap: Global, keyword: Keyword, mut line: Line<'_>) -> Result<Statement, Fault>
-    ensures { Answers stated_of result (statement_of (Some keyword)) line.entry }
+    ensures { Answers stated_of result (statement_of keyword) line.entry }
 {
     let step = match keyword {
         Keyword::Words => return Ok(Statement::Words(read_words(heap, line)?)),

@@ -1,9 +1,10 @@
 //! Steps: what is to be done with a routine.
 ghost use Rattle.std.specs.Prelude.{◌≡◌};
-ghost use Rattle.routine.specs.Steps.{needs_order, second_byte, join_in, put_in, run_in, read_in};
+ghost use Rattle.routine.specs.Steps.{needing_order, second_byte, join_in, put_in, run_in, read_in};
 ghost use Rattle.routine.specs.Answers.{Finds};
 
 use crate::faults::Malformed;
+use crate::keywords::Keyword;
 use crate::operands::{is_empty, read_number, read_place};
 use avr::location::Location;
 use machine::call::Call;
@@ -21,11 +22,15 @@ pub enum Step {
 }
 
 impl Step {
-    /// Whether it asks the order, so that one must be named above it.
-    pub(crate) fn needs_order(self) -> bool
-        ensures { result ≡ needs_order self }
+    /// Its keyword, if it asks the order, so that one must be named above it.
+    pub(crate) fn needing_order(self) -> Option<Keyword>
+        ensures { result ≡ needing_order self }
     {
-        matches!(self, Step::Judge | Step::Join { .. })
+        match self {
+            Step::Judge => Some(Keyword::Judge),
+            Step::Join { .. } => Some(Keyword::Join),
+            Step::Call(_) => None,
+        }
     }
 }
 
