@@ -3,6 +3,7 @@ use Rattle.std.specs.Prelude.{ℕ, cond, List, [], ◌∷◌, is_some, Ok, Err, 
 use Rattle.std.specs.Option.{ok_or}
 use Rattle.std.specs.Result.{result_map_both}
 use Rattle.orders.specs.Written.{Form, Written, chain, compartments, table, one, pair}
+use Rattle.routine.specs.declared.faults.Expected.{Expected}
 use Rattle.routine.specs.declared.faults.Expected.TheVariants as expected
 use Rattle.routine.specs.declared.faults.Malformed.{Malformed}
 use Rattle.routine.specs.declared.keywords.Kind.{Kind}
@@ -32,17 +33,18 @@ form_in kind.Chain tokens = and_next (number_in 0xFFFF tokens) (λ n rest. Ok (c
 form_in kind.Compartments tokens = and_next (number_in 0xFFFF tokens) (λ n rest. Ok (compartments n, rest))
 form_in kind.Table tokens = and_next (number_in 0xFFFF tokens) (λ n rest. and_next (bytes_in rest) (λ bytes last. Ok (table n bytes, last)))
 
--- an order of one kind
-abbrev pub simple_in : Tokens → Read Form
-simple_in tokens = and_next (one_token expected.Order (λ token. ok_or (kind_of token) expected.Order) tokens) form_in
+-- an order of one kind, where something is expected
+abbrev pub simple_in : Expected → Tokens → Read Form
+simple_in something tokens = and_next (one_token something (λ token. ok_or (kind_of token) something) tokens) form_in
 
 -- two orders of one kind each
 abbrev pub pair_in : Tokens → Read Written
-pair_in tokens = and_next (simple_in tokens) (λ first rest. and_next (simple_in rest) (λ second last. Ok (pair first second, last)))
+pair_in tokens =
+    and_next (simple_in expected.PartOrder tokens) (λ first rest. and_next (simple_in expected.PartOrder rest) (λ second last. Ok (pair first second, last)))
 
 -- one of them alone
 abbrev pub one_in : Tokens → Read Written
-one_in tokens = and_next (simple_in tokens) (λ form rest. Ok (one form, rest))
+one_in tokens = and_next (simple_in expected.Order tokens) (λ form rest. Ok (one form, rest))
 
 -- what stands behind the keyword `order`
 abbrev pub order_of : Tokens → Result Written Malformed

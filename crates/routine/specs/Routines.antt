@@ -3,7 +3,7 @@ use Rattle.std.specs.Prelude.{ℕ, ◌*◌, Bool, true, false, cond, not, ◌||�
 use Rattle.std.specs.Option as options
 use Rattle.std.specs.Result as results
 use Rattle.orders.specs.Written.{Written, written_of}
-use Rattle.routine.specs.declared.faults.Expected.TheVariants.{Sequence, OneOrder, OrderBefore, OneForm}
+use Rattle.routine.specs.declared.faults.Expected.TheVariants.{Sequence, OneOrder, OrderAbove, SameForm}
 use Rattle.routine.specs.declared.faults.Malformed.{Malformed}
 use Rattle.routine.specs.declared.keywords.Keyword.{Keyword}
 use Rattle.routine.specs.declared.keywords.Keyword.TheVariants as keyword
@@ -81,7 +81,7 @@ started d = not (length d.steps == 0)
 abbrev pub plain_rows : ℕ → Draft → List ℕ → Option RowForm → Result Draft Malformed
 plain_rows line d ns None = Ok (with_numbers line d ns)
 plain_rows line d ns (Some Plain) = Ok (with_numbers line d ns)
-plain_rows line d ns (Some Sparse) = Err (misplaced OneForm keyword.Rows)
+plain_rows line d ns (Some Sparse) = Err (misplaced SameForm keyword.Rows)
 
 -- row number a has these values, and what is not named is 0
 abbrev pub with_row : ℕ → Draft → ℕ → List Entry → Draft
@@ -90,7 +90,7 @@ with_row line d a entries = with_rows d (rows_with (length d.words) a entries d.
 -- a row by name, where no rows were written in the other form
 abbrev pub sparse_row : ℕ → Draft → RowName → List Entry → Option RowForm → Result Draft Malformed
 sparse_row line d name entries None = results.result_map_both (λ a. with_row line d a entries) (λ m. m) (number_of_row (length d.words) name)
-sparse_row line d name entries (Some Plain) = Err (misplaced OneForm keyword.Row)
+sparse_row line d name entries (Some Plain) = Err (misplaced SameForm keyword.Row)
 sparse_row line d name entries (Some Sparse) = results.result_map_both (λ a. with_row line d a entries) (λ m. m) (number_of_row (length d.words) name)
 
 -- an order comes before the steps, and there is one at most
@@ -99,7 +99,7 @@ ordered d w = cond (started d) (Err (misplaced Sequence keyword.Order)) (cond (o
 
 -- a keyword that needs an order must stand behind one
 abbrev pub behind_order : Option Keyword → Option Written → Draft → Result Draft Malformed
-behind_order (Some name) None d = Err (misplaced OrderBefore name)
+behind_order (Some name) None d = Err (misplaced OrderAbove name)
 behind_order (Some name) (Some w) d = Ok d
 behind_order None order d = Ok d
 

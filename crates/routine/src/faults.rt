@@ -33,9 +33,12 @@ pub enum Expected {
     /// The end of a statement, where all its operands are read.
     #[error("the end of the line")]
     EndOfLine,
-    /// A kind of order.
+    /// An order.
     #[error("an order: chain, compartments or table, or pair and two of these")]
     Order,
+    /// One of the two orders of a pair.
+    #[error("an order in the pair: chain, compartments or table")]
+    PartOrder,
     /// A place.
     #[error("a register, r0 to r255, or an address of the memory, 0 to 65535")]
     Place,
@@ -47,7 +50,7 @@ pub enum Expected {
     OneOrder,
     /// An order, above a statement that asks it.
     #[error("an order before judge and join")]
-    OrderBefore,
+    OrderAbove,
     /// A row that there is.
     #[error("the address of one of the words, or finish")]
     Row,
@@ -59,7 +62,7 @@ pub enum Expected {
     Column,
     /// Rows in the form of those above them.
     #[error("all rows by rows, or all of them by row")]
-    OneForm,
+    SameForm,
 }
 
 /// What stands there instead.

@@ -45,12 +45,12 @@ fn read_form(heap: Global, kind: Kind, line: &mut Line<'_>) -> Result<SimpleText
     }
 }
 
-/// The simple order that a line goes on with.
-fn read_simple(heap: Global, line: &mut Line<'_>) -> Result<SimpleText, Fault>
-    ensures { Reads form_of result simple_in line.old line.new }
+/// The simple order that a line goes on with, where something is expected.
+fn read_simple(heap: Global, expected: Expected, line: &mut Line<'_>) -> Result<SimpleText, Fault>
+    ensures { Reads form_of result (simple_in expected) line.old line.new }
 {
-    let token = line.next().ok_or(Malformed::missing(Expected::Order))?;
-    let kind = Kind::from_token(token).ok_or(Malformed::wrong(Expected::Order, token))?;
+    let token = line.next().ok_or(Malformed::missing(expected))?;
+    let kind = Kind::from_token(token).ok_or_else(|| Malformed::wrong(expected, token))?;
     read_form(heap, kind, line)
 }
 
@@ -58,8 +58,8 @@ fn read_simple(heap: Global, line: &mut Line<'_>) -> Result<SimpleText, Fault>
 fn read_pair(heap: Global, line: &mut Line<'_>) -> Result<OrderText, Fault>
     ensures { Reads written_of result pair_in line.old line.new }
 {
-    let first = read_simple(heap, line)?;
-    let second = read_simple(heap, line)?;
+    let first = read_simple(heap, Expected::PartOrder, line)?;
+    let second = read_simple(heap, Expected::PartOrder, line)?;
     Ok(OrderText::Pair(first, second))
 }
 
@@ -74,7 +74,7 @@ pub(crate) fn read_order(heap: Global, mut line: Line<'_>) -> Result<OrderText, 
         end(ahead)?;
         return Ok(order);
     }
-    let form = read_simple(heap, &mut line)?;
+    let form = read_simple(heap, Expected::Order, &mut line)?;
     end(line)?;
     Ok(OrderText::Simple(form))
 }

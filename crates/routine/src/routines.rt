@@ -131,7 +131,7 @@ impl Routine {
             return Err(Malformed::misplaced(Expected::Sequence, Keyword::Rows).into());
         }
         if matches!(self.form, Some(RowForm::Sparse)) {
-            return Err(Malformed::misplaced(Expected::OneForm, Keyword::Rows).into());
+            return Err(Malformed::misplaced(Expected::SameForm, Keyword::Rows).into());
         }
         let stretch = Stretch {
             first: self.rows.len(),
@@ -152,7 +152,7 @@ impl Routine {
             return Err(Malformed::misplaced(Expected::Sequence, Keyword::Row).into());
         }
         if matches!(self.form, Some(RowForm::Plain)) {
-            return Err(Malformed::misplaced(Expected::OneForm, Keyword::Row).into());
+            return Err(Malformed::misplaced(Expected::SameForm, Keyword::Row).into());
         }
         let row = row_number(self.words.len(), name)?;
         self.write_row(line, row, entries.as_slice())
@@ -183,7 +183,7 @@ impl Routine {
         if let Some(keyword) = step.needing_order()
             && self.order.is_none()
         {
-            return Err(Malformed::misplaced(Expected::OrderBefore, keyword).into());
+            return Err(Malformed::misplaced(Expected::OrderAbove, keyword).into());
         }
         self.steps.push(step)?;
         Ok(())

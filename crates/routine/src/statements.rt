@@ -37,7 +37,10 @@ pub fn read_statement(heap: Global, mut line: Line<'_>) -> Result<Option<Stateme
     let Some(token) = line.next() else {
         return Ok(None);
     };
-    let keyword = Keyword::from_token(token).ok_or(Malformed::wrong(Expected::Keyword, token))?;
+    let keyword = Keyword::from_token(token).ok_or_else(|| Malformed::wrong(
+        Expected::Keyword,
+        token,
+    ))?;
     let statement = read_operands(heap, keyword, line)?;
     Ok(Some(statement))
 }
