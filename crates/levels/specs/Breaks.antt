@@ -14,20 +14,28 @@ abbrev pub unless : Bool → BrokenLaw → Option BrokenLaw → Option BrokenLaw
 unless true law others = others
 unless false law others = Some law
 
+-- whether a and b join to one of the codes below n
+abbrev pub unclosed_by_two : ℕ → (ℕ → ℕ → ℕ) → ℕ → ℕ → Option BrokenLaw
+unclosed_by_two n j a b = unless (nat_lt (j a b) n) (Closure a b) None
+
+-- and a with each of them
+abbrev pub unclosed_by : ℕ → (ℕ → ℕ → ℕ) → ℕ → Option BrokenLaw
+unclosed_by n j a = least_answer (unclosed_by_two n j a) n
+
 -- what a and b break with c, for the join j
 abbrev pub broken_by_three : (ℕ → ℕ → ℕ) → ℕ → ℕ → ℕ → Option BrokenLaw
 broken_by_three j a b c = unless (j (j a b) c == j a (j b c)) (Associativity a b c) None
 
--- what a breaks with b, or the two with a third, among the codes below n
+-- what a breaks with b, or the two with a third
 abbrev pub broken_by_two : ℕ → (ℕ → ℕ → ℕ) → ℕ → ℕ → Option BrokenLaw
-broken_by_two n j a b =
-    unless (nat_lt (j a b) n) (Closure a b) (unless (j a b == j b a) (Commutativity a b) (least_answer (broken_by_three j a b) n))
+broken_by_two n j a b = unless (j a b == j b a) (Commutativity a b) (least_answer (broken_by_three j a b) n)
 
 -- what a breaks alone or with others
 abbrev pub broken_by : ℕ → (ℕ → ℕ → ℕ) → ℕ → Option BrokenLaw
 broken_by n j a =
     unless (j 0 a == a) (Neutrality a) (unless (j a a == a) (Idempotence a) (least_answer (broken_by_two n j a) n))
 
--- what the join j breaks first: the codes below n in ascending order, each first alone, then with a second, then with a third
+-- What the join j breaks first: that all joins are codes, and then, of the codes below n in ascending order, what each breaks alone, with
+-- a second and with a third.
 abbrev pub broken_law : ℕ → (ℕ → ℕ → ℕ) → Option BrokenLaw
-broken_law n j = least_answer (broken_by n j) n
+broken_law n j = option_or (least_answer (unclosed_by n j) n) (least_answer (broken_by n j) n)

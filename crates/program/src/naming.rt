@@ -82,26 +82,41 @@ impl fmt::Display for Breach<'_> {
         match self.law {
             BrokenLaw::Neutrality(a) => {
                 let joined = square.join(0, a);
-                write!(f, "0 is neutral: the join of 0 and {a} must be {a}, and it is {joined}")
+                write!(
+                    f,
+                    "0 is neutral: the join of 0 and {a} must be {a}, and it is {joined}"
+                )
             }
             BrokenLaw::Idempotence(a) => {
                 let joined = square.join(a, a);
-                write!(f, "joins are idempotent: the join of {a} and {a} must be {a}, and it is {joined}")
+                write!(
+                    f,
+                    "joins are idempotent: the join of {a} and {a} must be {a}, and it is {joined}"
+                )
             }
             BrokenLaw::Closure(a, b) => {
                 let joined = square.join(a, b);
                 let levels = square.levels;
-                write!(f, "joins are levels: the join of {a} and {b} must be below {levels}, and it is {joined}")
+                write!(
+                    f,
+                    "joins are levels: the join of {a} and {b} must be below {levels}, and it is {joined}"
+                )
             }
             BrokenLaw::Commutativity(a, b) => {
                 let joined = square.join(a, b);
                 let turned = square.join(b, a);
-                write!(f, "joins are commutative: the join of {a} and {b} is {joined}, and that of {b} and {a} is {turned}")
+                write!(
+                    f,
+                    "joins are commutative: the join of {a} and {b} is {joined}, and that of {b} and {a} is {turned}"
+                )
             }
             BrokenLaw::Associativity(a, b, c) => {
                 let first = square.join(square.join(a, b), c);
                 let last = square.join(a, square.join(b, c));
-                write!(f, "joins are associative: {a} and {b} joined, and then {c}, is {first}; {a} joined with the join of {b} and {c} is {last}")
+                write!(
+                    f,
+                    "joins are associative: {a} and {b} joined, and then {c}, is {first}; {a} joined with the join of {b} and {c} is {last}"
+                )
             }
         }
     }

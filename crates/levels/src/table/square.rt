@@ -3,7 +3,7 @@ ghost use Rattle.std.specs.Prelude.{◌≡◌, ◌+◌, ◌*◌, is_none};
 ghost use Rattle.verdicts.specs.Verdict.{outcome, making};
 ghost use Rattle.levels.specs.Faults.{refusal_of};
 ghost use Rattle.levels.specs.Tables.{join_in, joins_of, read_off, squared, semilattice};
-ghost use Rattle.levels.specs.Breaks.{least_answer, broken_by_three, broken_by_two, broken_by, broken_law};
+ghost use Rattle.levels.specs.Breaks.{least_answer, unclosed_by_two, unclosed_by, broken_by_three, broken_by_two, broken_by, broken_law};
 
 use crate::fault::OrderFault;
 
@@ -59,6 +59,39 @@ impl Square<'_> {
         self.bytes.get(self.place(a, b)).copied().unwrap_or(0)
     }
 
+    /// What is wrong if two codes join to no code.
+    fn unclosed_by_two(&self, a: u8, b: u8) -> Option<BrokenLaw>
+        ensures { result ≡ unclosed_by_two self.now.levels (joins_of self.now) a b }
+    {
+        (self.join(a, b) >= self.levels).then_some(BrokenLaw::Closure(a, b))
+    }
+
+    /// What is wrong first where a code and another join to no code.
+    #[tactic(auto, using(crate::proofs::Breaking::none_yet, crate::proofs::Breaking::none_more, crate::proofs::Breaking::answered, crate::proofs::Breaking::none_all))]
+    fn unclosed_by(&self, a: u8) -> Option<BrokenLaw>
+        ensures { result ≡ unclosed_by self.now.levels (joins_of self.now) a }
+    {
+        for b in 0..self.levels {
+            if let Some(law) = self.unclosed_by_two(a, b) {
+                return Some(law);
+            }
+        }
+        None
+    }
+
+    /// What is wrong first where two codes join to no code.
+    #[tactic(auto, using(crate::proofs::Breaking::none_yet, crate::proofs::Breaking::none_more, crate::proofs::Breaking::answered, crate::proofs::Breaking::none_all))]
+    fn unclosed(&self) -> Option<BrokenLaw>
+        ensures { result ≡ least_answer (unclosed_by self.now.levels (joins_of self.now)) self.now.levels }
+    {
+        for a in 0..self.levels {
+            if let Some(law) = self.unclosed_by(a) {
+                return Some(law);
+            }
+        }
+        None
+    }
+
     /// What two codes break with a third.
     fn broken_by_three(&self, a: u8, b: u8, c: u8) -> Option<BrokenLaw>
         ensures { result ≡ broken_by_three (joins_of self.now) a b c }
@@ -85,11 +118,7 @@ impl Square<'_> {
     fn broken_by_two(&self, a: u8, b: u8) -> Option<BrokenLaw>
         ensures { result ≡ broken_by_two self.now.levels (joins_of self.now) a b }
     {
-        let ab = self.join(a, b);
-        if ab >= self.levels {
-            return Some(BrokenLaw::Closure(a, b));
-        }
-        if ab != self.join(b, a) {
+        if self.join(a, b) != self.join(b, a) {
             return Some(BrokenLaw::Commutativity(a, b));
         }
         self.broken_with_thirds(a, b)
@@ -121,12 +150,10 @@ impl Square<'_> {
         self.broken_with_seconds(a)
     }
 
-    /// What the joins break first: the codes in ascending order, each first alone, then with a second and then with a third. Nothing if
-    /// and only if the joins are those of an order that keeps the laws.
+    /// What the codes break first, each alone, with a second or with a third.
     #[tactic(auto, using(crate::proofs::Breaking::none_yet, crate::proofs::Breaking::none_more, crate::proofs::Breaking::answered, crate::proofs::Breaking::none_all))]
-    pub fn broken_law(&self) -> Option<BrokenLaw>
-        ensures first { result ≡ broken_law self.now.levels (joins_of self.now) }
-        ensures none { is_none result ≡ semilattice self.now.levels (joins_of self.now) }
+    fn broken(&self) -> Option<BrokenLaw>
+        ensures { result ≡ least_answer (broken_by self.now.levels (joins_of self.now)) self.now.levels }
     {
         for a in 0..self.levels {
             if let Some(law) = self.broken_by(a) {
@@ -134,5 +161,17 @@ impl Square<'_> {
             }
         }
         None
+    }
+
+    /// What the joins break first: that all are codes, and then, of the codes in ascending order, what each breaks alone, with a second
+    /// and with a third. Nothing if and only if the joins are those of an order that keeps the laws.
+    pub fn broken_law(&self) -> Option<BrokenLaw>
+        ensures first { result ≡ broken_law self.now.levels (joins_of self.now) }
+        ensures none { is_none result ≡ semilattice self.now.levels (joins_of self.now) }
+    {
+        if let Some(law) = self.unclosed() {
+            return Some(law);
+        }
+        self.broken()
     }
 }

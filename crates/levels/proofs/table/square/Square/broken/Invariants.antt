@@ -1,7 +1,7 @@
 use Rattle.std.proofs.Common.{◌≡◌, None}
 use Rattle.levels.specs.Tables.{joins_of}
 use Rattle.levels.specs.Breaks.{least_answer, broken_by}
-use Rattle.levels.proofs.table.square.Square.broken_law.Given as goal
+use Rattle.levels.proofs.table.square.Square.broken.Given as goal
 
 -- no code before this one breaks a law
 abbrev pub invariant-loop-a : goal.invariant-loop-a
