@@ -1,6 +1,6 @@
 -- The laws of reading. Assumes nothing.
 use Rattle.std.proofs.Common.{◌≡◌, ℕ, ◌+◌, List, [], ◌∷◌, ◌++◌, map, length, take, Ok, Err, Result, nat_lt, refl, ◌∙◌, arith}
-use Rattle.routine.specs.Quotes.{quote_of, quoted, is_cut}
+use Rattle.routine.specs.Quotes.{quote_length, quote_of, quoted, is_cut}
 use Rattle.routine.specs.Gathered.{gathered}
 use Rattle.routine.specs.Operands.{word_of, byte_of}
 use Rattle.routine.specs.Routines.{Draft}
@@ -27,11 +27,11 @@ unfolding lines_from
 onward n [] more d e h = grind arith
 onward n (line ∷ lines) more d e h = grind (arith, λ (c : Draft). onward (n + 1) lines more c e)
 
-front_shown : (token : List ℕ) → quoted (quote_of token) ≡ take 32 token
+front_shown : (token : List ℕ) → quoted (quote_of token) ≡ take quote_length token
 unfolding quote_of
-front_shown token = shown 32 token
+front_shown token = shown quote_length token
 
-rest_told : (token : List ℕ) → is_cut (quote_of token) ≡ nat_lt 32 (length token)
+rest_told : (token : List ℕ) → is_cut (quote_of token) ≡ nat_lt quote_length (length token)
 unfolding quote_of
 rest_told token = refl
 

@@ -1,7 +1,7 @@
 -- What reading comes to, in words that do not follow its steps. Assumes nothing.
 use Rattle.std.specs.Prelude.{◌≡◌, ℕ, ◌+◌, List, ◌∷◌, ◌++◌, map, length, take, Ok, Err, Result, nat_lt}
 use Rattle.routine.specs.declared.faults.Malformed.{Malformed}
-use Rattle.routine.specs.Quotes.{quote_of, quoted, is_cut}
+use Rattle.routine.specs.Quotes.{quote_length, quote_of, quoted, is_cut}
 use Rattle.routine.specs.Gathered.{gathered}
 use Rattle.routine.specs.Operands.{word_of, byte_of}
 use Rattle.routine.specs.Routines.{Draft}
@@ -20,10 +20,10 @@ pub record LinesInTurn : Type 0 where
   pub first : (n : ℕ) (lines : List (List ℕ)) (bad : List ℕ) (more : List (List ℕ)) (d e : Draft) (wrong : Malformed) → lines_from n lines d ≡ Ok e →
       after_line (n + length lines) e bad ≡ Err wrong → lines_from n (lines ++ bad ∷ more) d ≡ Err (n + length lines, wrong)
 
--- a quote shows the first 32 bytes of a token, and tells whether the token has more
+-- a quote shows the first bytes of a token, and tells whether the token has more
 pub record Quotes : Type 0 where
-  pub shown : (token : List ℕ) → quoted (quote_of token) ≡ take 32 token
-  pub cut : (token : List ℕ) → is_cut (quote_of token) ≡ nat_lt 32 (length token)
+  pub shown : (token : List ℕ) → quoted (quote_of token) ≡ take quote_length token
+  pub cut : (token : List ℕ) → is_cut (quote_of token) ≡ nat_lt quote_length (length token)
 
 -- words, bytes and lines are read in this way, and tokens quoted
 pub record ReadingStands : Type 0 where

@@ -15,7 +15,7 @@ use Rattle.routine.specs.declared.rows.RowName.{RowName}
 use Rattle.routine.specs.declared.steps.Step.{Step}
 use Rattle.routine.specs.Faults.{misplaced}
 use Rattle.routine.specs.Rows.{width, number_of_row, rows_with}
-use Rattle.routine.specs.Steps.{needing_order}
+use Rattle.routine.specs.Steps.{keyword_needing_order}
 use Rattle.routine.specs.Stretches.{line_of}
 use Rattle.routine.specs.declared.stretches.Stretch.{Stretch}
 use Rattle.routine.specs.Statements as stated
@@ -105,7 +105,7 @@ behind_order None order d = Ok d
 
 -- one step more, behind the order that it may need
 abbrev pub with_next : Draft → Step → Result Draft Malformed
-with_next d s = behind_order (needing_order s) d.order (with_step d s)
+with_next d s = behind_order (keyword_needing_order s) d.order (with_step d s)
 
 -- words come first, then rows and at most one order, then the steps; each statement stands on a line
 abbrev pub accepted : ℕ → Draft → Stated → Result Draft Malformed

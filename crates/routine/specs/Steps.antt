@@ -11,10 +11,10 @@ use Rattle.routine.specs.Operands as operands
 use Rattle.routine.specs.Operands.{Tokens, and_next, number_in, place_in}
 
 -- the keyword of a step that needs an order: to judge and to join do, and a call on the boards does not
-abbrev pub needing_order : Step → Option Keyword
-needing_order step.Judge = Some keyword.Judge
-needing_order (step.Join first second) = Some keyword.Join
-needing_order (step.Call call) = None
+abbrev pub keyword_needing_order : Step → Option Keyword
+keyword_needing_order step.Judge = Some keyword.Judge
+keyword_needing_order (step.Join first second) = Some keyword.Join
+keyword_needing_order (step.Call call) = None
 
 -- a second byte, if one is written, and else the first one again
 abbrev pub second_byte : ℕ → Tokens → operands.Read ℕ

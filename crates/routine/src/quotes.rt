@@ -17,7 +17,6 @@ pub struct Quote {
 
 impl Quote {
     /// The quote of a token.
-
     pub(crate) fn new(token: &[u8]) -> Quote
         ensures { result ≡ quote_of token.now }
     {

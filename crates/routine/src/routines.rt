@@ -180,7 +180,7 @@ impl Routine {
     fn add_step(&mut self, step: Step) -> Result<(), Fault>
         ensures { Makes result self.old self.new (λ d. with_next d step) }
     {
-        if let Some(keyword) = step.needing_order()
+        if let Some(keyword) = step.keyword_needing_order()
             && self.order.is_none()
         {
             return Err(Malformed::misplaced(Expected::OrderAbove, keyword).into());

@@ -37,10 +37,9 @@ pub fn read_statement(heap: Global, mut line: Line<'_>) -> Result<Option<Stateme
     let Some(token) = line.next() else {
         return Ok(None);
     };
-    let keyword = Keyword::from_token(token).ok_or_else(|| Malformed::wrong(
-        Expected::Keyword,
-        token,
-    ))?;
+    let Some(keyword) = Keyword::from_token(token) else {
+        return Err(Malformed::wrong(Expected::Keyword, token).into());
+    };
     let statement = read_operands(heap, keyword, line)?;
     Ok(Some(statement))
 }

@@ -1,6 +1,6 @@
 //! Steps: what is to be done with a routine.
 ghost use Rattle.std.specs.Prelude.{◌≡◌};
-ghost use Rattle.routine.specs.Steps.{needing_order, second_byte, join_in, put_in, run_in, read_in};
+ghost use Rattle.routine.specs.Steps.{keyword_needing_order, second_byte, join_in, put_in, run_in, read_in};
 ghost use Rattle.routine.specs.Answers.{Finds};
 
 use crate::faults::Malformed;
@@ -23,8 +23,8 @@ pub enum Step {
 
 impl Step {
     /// Its keyword, if it asks the order, so that one must be named above it.
-    pub(crate) fn needing_order(self) -> Option<Keyword>
-        ensures { result ≡ needing_order self }
+    pub(crate) fn keyword_needing_order(self) -> Option<Keyword>
+        ensures { result ≡ keyword_needing_order self }
     {
         match self {
             Step::Judge => Some(Keyword::Judge),
