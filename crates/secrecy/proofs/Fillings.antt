@@ -8,42 +8,58 @@ use Rattle.secrecy.specs.Accepted.{Shape, Leaves, Stays, Edge, WordRule, Flows, 
 use Rattle.secrecy.specs.Filling.{SameGiven, Below, LeadsBy, Leads, Settled, AllHeld, RaisesBelow, FillingFor}
 use Rattle.secrecy.proofs.Monotone.{join_below, zero_only, deciding_rises, pc_level_rises, level_after_rises}
 
-module _ {B V W : Type 0} (m : Meaning) (laws : Laws m) (M : Machine B V W) (R S : Rows) (accepted : Accepted m M S) (same : SameGiven R S) (below : Below m R S) where
+-- where a word leads is a matter of given columns
+leads_by : {B V W : Type 0} (m : Meaning) (M : Machine B V W) (R S : Rows) → SameGiven R S → (a : ℕ) (k : Kind) (b : ℕ) → LeadsBy m M R a k b → LeadsBy m M S a k b
+leads_by m M R S same a (plain b' c) b h = h
+leads_by m M R S same a (forks qs b' c b'' c') b h = h
+leads_by m M R S same a (calls t c) b h = h
+leads_by m M R S same a (rets c) b (inl (k, l, w, e)) = inl (k, l, (w.0, rw (← same.function a) w.1), e)
+leads_by m M R S same a (rets c) b (inr (z, e)) = inr (rw (← same.function a) z, e)
+
+pub leads_same : {B V W : Type 0} (m : Meaning) (M : Machine B V W) (R S : Rows) → SameGiven R S → (a b : ℕ) → Leads m M R a b → Leads m M S a b
+leads_same m M R S same a b h = leads_by m M R S same a (M.kind a) b h
+
+module _ {B V W : Type 0} (m : Meaning) (M : Machine B V W) (S : Rows) (accepted : Accepted m M S) where
   -- the levels of accepted rows flow along every way
-  flows_by : (a : ℕ) (k : Kind) (b : ℕ) → WordRule m M S a k → LeadsBy m M R a k b → Flows m M S a b
+  flows_by : (a : ℕ) (k : Kind) (b : ℕ) → WordRule m M S a k → LeadsBy m M S a k b → Flows m M S a b
   flows_by a (plain b' c) b rule e = grind (arith, rule.levels)
   flows_by a (forks qs b' c b'' c') b rule (inl e) = grind (arith, rule.0.levels)
   flows_by a (forks qs b' c b'' c') b rule (inr e) = grind (arith, rule.1.levels)
   flows_by a (calls t c) b rule e = grind (arith, rule.levels)
-  flows_by a (rets c) b rule (inl (k, l, w, e)) = grind (arith, same.function a, rule.levels k w.0 l)
-  flows_by a (rets c) b rule (inr (z, e)) = grind (arith, same.function a, rule.finish)
-
-  flows : (a b : ℕ) → a < M.size → Leads m M R a b → Flows m M S a b
-  flows a b l way = flows_by a (M.kind a) b (accepted.words a l) way
+  flows_by a (rets c) b rule (inl (k, l, w, e)) = grind (arith, rule.levels k w.0 l)
+  flows_by a (rets c) b rule (inr (z, e)) = grind (arith, rule.finish)
 
   -- and so does their pc_level between rows inside
   stays_by : (a b c : ℕ) → Edge m M S a b c → 0 < S.remaining a → 0 < S.remaining b → m.flows (pc_level m M S a) (S.region b) ≡ true
   stays_by a b c edge h k = ⊎_elim (λ (g : Leaves S a b c). absurd (let z = g.outside in omega arith)) (λ (g : Stays m M S a b c). g.region) (edge.timed h)
 
-  region_by : (a : ℕ) (k : Kind) (b : ℕ) → WordRule m M S a k → LeadsBy m M R a k b → 0 < S.remaining a → 0 < S.remaining b → m.flows (pc_level m M S a) (S.region b) ≡ true
+  region_by : (a : ℕ) (k : Kind) (b : ℕ) → WordRule m M S a k → LeadsBy m M S a k b → 0 < S.remaining a → 0 < S.remaining b → m.flows (pc_level m M S a) (S.region b) ≡ true
   region_by a (plain b' c) b rule e h k = grind (arith, stays_by a b c)
   region_by a (forks qs b' c b'' c') b rule (inl e) h k = grind (arith, stays_by a b c)
   region_by a (forks qs b' c b'' c') b rule (inr e) h k = grind (arith, stays_by a b c')
   region_by a (calls t c) b rule e h k = absurd (let z = rule.outside in omega arith)
   region_by a (rets c) b rule e h k = absurd (let z = rule.outside in omega arith)
 
-  region : (a b : ℕ) → a < M.size → Leads m M R a b → 0 < S.remaining a → 0 < S.remaining b → m.flows (pc_level m M S a) (S.region b) ≡ true
-  region a b l way = region_by a (M.kind a) b (accepted.words a l) way
-
-  pub raises : RaisesBelow m M R S
-  raises = record {
-    levels = λ a b p l way place. join_below m laws _ _ _ ((below b).levels p) (laws.transitive _ _ _ (level_after_rises m laws M R S below a p) (flows a b l way p place));
-    regions = λ a b l way h k.
-        join_below m laws _ _ _ (below b).region
-        (laws.transitive _ _ _ (pc_level_rises m laws M R S below a) (region a b l way (let e = same.remaining a in omega arith) (let e = same.remaining b in omega arith)));
+  pub from_accepted : Settled m M S
+  from_accepted a b l k way = record {
+    levels = flows_by a (M.kind a) b (accepted.words a l) way;
+    region = region_by a (M.kind a) b (accepted.words a l) way;
   }
 
-  module _ (held : AllHeld m M R) (settled : Settled m M R) where
+module _ {B V W : Type 0} (m : Meaning) (laws : Laws m) (M : Machine B V W) (R S : Rows) (same : SameGiven R S) (below : Below m R S) where
+  module _ (settled : Settled m M S) where
+    pub raises : RaisesBelow m M R S
+    raises = record {
+      levels = λ a b p l k way place.
+          join_below m laws _ _ _ ((below b).levels p)
+          (laws.transitive _ _ _ (level_after_rises m laws M R S below a p) ((settled a b l k (leads_same m M R S same a b way)).levels p place));
+      regions = λ a b l k way h i.
+          join_below m laws _ _ _ (below b).region
+          (laws.transitive _ _ _ (pc_level_rises m laws M R S below a)
+          ((settled a b l k (leads_same m M R S same a b way)).region (let e = same.remaining a in omega arith) (let e = same.remaining b in omega arith)));
+    }
+
+  module _ (accepted : Accepted m M S) (held : AllHeld m M R) (settled : Settled m M R) where
     region_zero : (row : ℕ) → S.region row ≡ 0 → R.region row ≡ 0
     region_zero row e = zero_only m laws (R.region row) (let f = (below row).region in rw e at f)
 
@@ -117,4 +133,8 @@ module _ {B V W : Type 0} (m : Meaning) (laws : Laws m) (M : Machine B V W) (R S
     }
 
 pub filling : {B V W : Type 0} → FillingFor B V W
-filling = record { raises = λ m laws M R S. raises m laws M R S; settles = λ m laws M R S. settles m laws M R S }
+filling = record {
+  raises = λ m laws M R S settled same below. raises m laws M R S same below settled;
+  from_accepted = λ m laws M S accepted. from_accepted m M S accepted;
+  settles = λ m laws M R S accepted same below held settled. settles m laws M R S same below accepted held settled;
+}
