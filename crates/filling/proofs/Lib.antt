@@ -1,5 +1,9 @@
 pub mod Sets
 pub mod Raises
+pub mod Steps
 pub mod Ways
 pub mod Seeding
+pub mod Written
+pub mod Stays
 pub mod Least
+pub mod Worklists

@@ -1,15 +1,17 @@
--- A level raised keeps rows between what is given and what is accepted.
-use Rattle.std.proofs.Common.{◌≡◌, ℕ, ◌+◌, ◌*◌, ◌<◌, ◌≤◌, Bool, true, false, not, ◌==◌, nat_lt, nat_eq, List, length, set, get_or, refl, arith, length-set, ◌⊎◌, inl, inr, ⊎_elim, sym, ◌∙◌}
+-- A level raised keeps rows between what is given and what is settled.
+use Rattle.std.proofs.Common.{◌≡◌, ℕ, ◌+◌, ◌*◌, ◌<◌, ◌≤◌, true, not, nat_eq, List, length, set, get_or, arith, length-set, ◌⊎◌}
 use Rattle.std.proofs.lemmas.Bool.Decides.{nat_tests}
 use Rattle.std.proofs.Math.Seq.{set-get_or}
 use Rattle.levels.specs.Order.{Meaning, Laws}
 use Rattle.levels.specs.Ranks.{RankLaws}
-use Rattle.avr.specs.Chip.{avr}
-use Rattle.secrecy.specs.Rows.{Rows, rows_of, cell, columns, is_place}
-use Rattle.secrecy.specs.Filling.{SameGiven, RowBelow, Below, AllHeld, FillsIn}
+use Rattle.secrecy.specs.Rows.{cell, columns}
 use Rattle.secrecy.proofs.Monotone.{join_below}
-use Rattle.filling.specs.Between.{weight, IsLevel, Between, Due, Raised}
+use Rattle.filling.specs.Between.{IsLevel, Between, Due, Raised, RaisesRow}
 use Rattle.filling.proofs.Sets.{weight_set, place_small, level_small, inside, here, Changed, cell_cases}
+
+-- a held level joins with itself to itself
+pub join_same : (m : Meaning) (laws : Laws m) (a : ℕ) → m.held a ≡ true → m.join a a ≡ a
+join_same m laws a h = laws.antisymmetric _ _ (laws.join_least a a a (laws.reflexive a h) (laws.reflexive a h)) (laws.join_left a a h h)
 
 module _ (m : Meaning) (laws : Laws m) (ws given rows : List ℕ) (between : Between m ws given rows) (b c level : ℕ) (row : b ≤ length ws) (column : IsLevel c) (due : Due m ws given b c level) where
   abbrev n : ℕ
@@ -66,14 +68,14 @@ module _ (m : Meaning) (laws : Laws m) (ws given rows : List ℕ) (between : Bet
       levels = λ p. grind (arith, nat_tests, place_small p, cell_rises 0 p, between.held.levels 0 p, between.above.levels p, laws.transitive);
       region = laws.transitive _ _ _ between.above.region (cell_rises 0 35 (omega arith) (between.held.regions 0));
     };
-    below = λ other fills a. record {
-      levels = λ p. grind (arith, nat_tests, place_small p, cases a p, old_is, join_below m laws old level, due.below other fills, (between.below other fills a).levels p);
-      region = grind (arith, cases a 35, old_is, join_below m laws old level, due.below other fills, (between.below other fills a).region);
+    below = λ other settles a. record {
+      levels = λ p. grind (arith, nat_tests, place_small p, cases a p, old_is, join_below m laws old level, due.below other settles, (between.below other settles a).levels p);
+      region = grind (arith, cases a 35, old_is, join_below m laws old level, due.below other settles, (between.below other settles a).region);
     };
   }
 
   -- a raise makes rows weigh more, unless nothing changes
-  pub raised : (rank : ℕ → ℕ) → RankLaws m rank → Raised rank rows after (not (nat_eq new old))
+  raised : (rank : ℕ → ℕ) → RankLaws m rank → Raised rank rows after (not (nat_eq new old))
   raised rank ranked = record {
     more = λ e.
         let apart : old ≡ new → ⊥ = λ q. grind (arith, nat_tests) in
@@ -81,6 +83,23 @@ module _ (m : Meaning) (laws : Laws m) (ws given rows : List ℕ) (between : Bet
         let w = weight_set rank rows (b * columns + c) new (inside n rows between.whole b c new row (omega (arith, small))) in
         omega arith;
     unchanged = λ e. let q : new ≡ old = grind (arith, nat_tests) in rw q (set-get_or rows (b * columns + c) 0);
+  }
+
+  zero_flows : m.flows 0 0 ≡ true
+  zero_flows = laws.least 0 laws.zero_held
+
+  -- and no other row changes
+  pub raises_row : (rank : ℕ → ℕ) → RankLaws m rank → RaisesRow m rank n rows after b (not (nat_eq new old))
+  raises_row rank ranked = record {
+    raised = raised rank ranked;
+    rises = λ a. record {
+      levels = λ p. grind (arith, nat_tests, place_small p, cell_rises a p, between.held.levels a p, zero_flows);
+      region = cell_rises a 35 (omega arith) (between.held.regions a);
+    };
+    others = λ a apart. record {
+      levels = λ p. grind (arith, nat_tests, place_small p, cases a p);
+      region = grind (arith, cases a 35);
+    };
   }
 
   -- and then the level flows to what stands there

@@ -1,16 +1,17 @@
 -- The rows that filling in begins with.
-use Rattle.std.proofs.Common.{◌≡◌, ℕ, zero, suc, ◌+◌, ◌*◌, ◌%◌, ◌<◌, ◌≤◌, Bool, true, false, cond, ◌||◌, nat_lt, nat_eq, List, [], ◌∷◌, length, get_or, refl, arith, sym, ◌∙◌, ◌⊎◌, ⊎_elim}
+use Rattle.std.proofs.Common.{◌≡◌, ℕ, zero, suc, ◌+◌, ◌*◌, ◌%◌, ◌<◌, ◌≤◌, Bool, true, false, cond, ◌||◌, ◌&&◌, nat_le, nat_lt, nat_eq, take, drop, ◌++◌, ◌-◌, List, [], ◌∷◌, length, get_or, refl, arith, ap, ◌∙◌}
 use Rattle.std.proofs.lemmas.Bool.Decides.{nat_tests}
+use Rattle.std.proofs.lemmas.List.{places}
 use Rattle.levels.specs.Order.{Meaning, Laws}
 use Rattle.avr.specs.Chip.{avr}
 use Rattle.std.proofs.lemmas.Bool.{eqb-true}
 use Rattle.verdicts.specs.Verdict.{fine, rule, and_then, first_of}
 use Rattle.words.specs.Legal.{legal_of}
-use Rattle.verdicts.proofs.Firsts.{first_each, and_fine}
-use Rattle.secrecy.specs.Rows.{Rows, rows_of, cell, columns, is_among, given_columns, is_place, level_columns, region_column}
+use Rattle.verdicts.proofs.Firsts.{first_each, and_fine, rule_met}
+use Rattle.secrecy.specs.Rows.{cell, columns, is_among, given_columns, level_columns}
 use Rattle.secrecy.specs.Rules.{length_rule, row_rules, row_rule, held_rule}
-use Rattle.secrecy.specs.Filling.{SameGiven, RowBelow, Below, AllHeld, FillsIn}
-use Rattle.secrecy.proofs.Columns.{among-nil, among-cons, first_of_each}
+use Rattle.secrecy.specs.Filling.{SettlesIn}
+use Rattle.secrecy.proofs.Columns.{among-nil, among-cons, first_of_each, each_first_of}
 use Rattle.filling.specs.Seeds.{is_read, seeded, seed_of, given_verdict}
 use Rattle.filling.specs.Between.{Between}
 use Rattle.filling.proofs.Sets.{place_small, level_small}
@@ -28,6 +29,28 @@ unfolding seeded
 seeded_at i k [] = grind (arith, nat_tests)
 seeded_at i zero (x ∷ xs) = grind (arith, nat_tests)
 seeded_at i (suc k) (x ∷ xs) = let h = seeded_at (i + 1) k xs in let e : i + 1 + k ≡ i + suc k = omega arith in grind (arith, nat_tests)
+
+pub read_at : (a c : ℕ) → c < columns → is_read (a * columns + c) ≡ (nat_eq a 0 || is_among given_columns c)
+read_at a c l = let e : (a * columns + c) % columns ≡ c = omega arith in grind (arith, nat_tests)
+
+-- numbers of which those from one index up to another are written over
+pub copied : (a b k : ℕ) (xs zs : List ℕ) → a ≤ b → b ≤ length zs → length xs ≡ length zs →
+    get_or (take a xs ++ (take (b - a) (drop a zs) ++ drop (b - a) (drop a xs))) k 0 ≡ cond (nat_le a k && nat_lt k b) (get_or zs k 0) (get_or xs k 0)
+copied a b k xs zs o w e = grind (arith, nat_tests, places)
+
+-- in a row, by where it begins
+in_row : (row k : ℕ) → row * columns ≤ k → k < (row + 1) * columns → is_read k ≡ (nat_eq row 0 || nat_le (row * columns + 36) k)
+in_row row k l h =
+    let e : row * columns + (k - row * columns) ≡ k = omega arith in
+    let r = read_at row (k - row * columns) (omega arith) in
+    let q = rw e at r in
+    let c : (nat_eq 36 (k - row * columns) || (nat_eq 37 (k - row * columns) || nat_eq 38 (k - row * columns))) ≡ nat_le (row * columns + 36) k = grind (arith, nat_tests) in
+    grind (arith, nat_tests, given_at (k - row * columns))
+
+-- the number read so far, when one row more is read
+pub read_more : (row k g r : ℕ) → r ≡ cond (nat_lt k (row * columns) && is_read k) g 0 →
+    cond (nat_le (row * columns + cond (nat_eq row 0) 0 36) k && nat_lt k ((row + 1) * columns)) g r ≡ cond (nat_lt k ((row + 1) * columns) && is_read k) g 0
+read_more row k g r e = let i = in_row row k in grind (arith, nat_tests)
 
 module _ (n : ℕ) (xs : List ℕ) where
   -- a cell is read, or 0
@@ -52,6 +75,12 @@ module _ (n : ℕ) (xs : List ℕ) where
   pub seed_level : (a c : ℕ) → c ≤ 35 → 0 < a → cell n (seed_of xs) a c ≡ 0
   seed_level a c l h = grind (arith, seed_cell a c, unread a c l h)
 
+-- no code is read but those of the first row
+pub codes_unread : (m : Meaning) → Laws m → (n : ℕ) (xs : List ℕ) (row : ℕ) → 0 < row → first_of (held_rule m n (seed_of xs) row) level_columns ≡ fine
+codes_unread m laws n xs row l =
+    each_first_of (held_rule m n (seed_of xs) row) level_columns
+    (λ column h. rule_met _ 4 _ (ap m.held (seed_level n xs row column (let s = level_small column in grind (arith, nat_tests)) l) ∙ laws.zero_held))
+
 -- a rule that is kept passed its test
 passed : (test : Bool) (k : ℕ) (vs : List ℕ) → rule test k vs ≡ fine → test ≡ true
 passed test k vs e = grind arith
@@ -65,6 +94,9 @@ module _ (m : Meaning) (laws : Laws m) (ws given receiving : List ℕ) (read : g
 
   parts : (length_rule n given ≡ fine) × (and_then (length_rule n receiving) (row_rules m n seed) ≡ fine)
   parts = and_fine _ _ (and_fine (legal_of ws) _ read).1
+
+  pub legal_read : legal_of ws ≡ fine
+  legal_read = (and_fine (legal_of ws) _ read).0
 
   pub given_whole : length given ≡ (n + 1) * columns
   given_whole = eqb-true _ _ (passed (nat_eq (length given) ((n + 1) * columns)) 3 [] parts.0)
@@ -87,14 +119,14 @@ module _ (m : Meaning) (laws : Laws m) (ws given receiving : List ℕ) (read : g
   seed_below other zero c l f h = rw (seed_first n given c (omega arith)) f
   seed_below other (suc a) c l f h = rw (seed_level n given (suc a) c l (omega arith)) (laws.least _ h)
 
-  other_held : (other : List ℕ) → FillsIn m (avr ws) given other → (a c : ℕ) → c ≤ 35 → m.held (cell n other a c) ≡ true
-  other_held other fills a c l = grind (arith, nat_tests, place_small c, fills.accepted.1.held a c, fills.accepted.1.regions a, laws.zero_held)
+  other_held : (other : List ℕ) → SettlesIn m (avr ws) given other → (a c : ℕ) → c ≤ 35 → m.held (cell n other a c) ≡ true
+  other_held other settles a c l = grind (arith, nat_tests, place_small c, settles.held.levels a c, settles.held.regions a, laws.zero_held)
 
-  other_above : (other : List ℕ) → FillsIn m (avr ws) given other → (c : ℕ) → c ≤ 35 → m.flows (cell n given 0 c) (cell n other 0 c) ≡ true
-  other_above other fills c l = grind (arith, nat_tests, place_small c, fills.above.levels c, fills.above.region)
+  other_above : (other : List ℕ) → SettlesIn m (avr ws) given other → (c : ℕ) → c ≤ 35 → m.flows (cell n given 0 c) (cell n other 0 c) ≡ true
+  other_above other settles c l = grind (arith, nat_tests, place_small c, settles.above.levels c, settles.above.region)
 
-  below_at : (other : List ℕ) → FillsIn m (avr ws) given other → (a c : ℕ) → c ≤ 35 → m.flows (cell n seed a c) (cell n other a c) ≡ true
-  below_at other fills a c l = seed_below other a c l (other_above other fills c l) (other_held other fills a c l)
+  below_at : (other : List ℕ) → SettlesIn m (avr ws) given other → (a c : ℕ) → c ≤ 35 → m.flows (cell n seed a c) (cell n other a c) ≡ true
+  below_at other settles a c l = seed_below other a c l (other_above other settles c l) (other_held other settles a c l)
 
   zero_flows : m.flows 0 0 ≡ true
   zero_flows = laws.least 0 laws.zero_held
@@ -115,8 +147,8 @@ module _ (m : Meaning) (laws : Laws m) (ws given receiving : List ℕ) (read : g
       levels = λ p. grind (arith, nat_tests, place_small p, seed_first n given p, first_held p, laws.reflexive (cell n given 0 p), zero_flows);
       region = rw (seed_first n given 35 (omega arith)) (laws.reflexive _ (first_held 35 (omega arith)));
     };
-    below = λ other fills a. record {
-      levels = λ p. grind (arith, nat_tests, place_small p, below_at other fills a p, zero_flows);
-      region = below_at other fills a 35 (omega arith);
+    below = λ other settles a. record {
+      levels = λ p. grind (arith, nat_tests, place_small p, below_at other settles a p, zero_flows);
+      region = below_at other settles a 35 (omega arith);
     };
   }

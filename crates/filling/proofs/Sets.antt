@@ -1,14 +1,13 @@
 -- One number of some rows, changed.
-use Rattle.std.proofs.Common.{◌≡◌, ℕ, ◌+◌, ◌*◌, ◌<◌, ◌≤◌, Bool, true, false, cond, nat_lt, nat_eq, List, length, set, get_or, refl, arith, length-set, get_or-set_other, ◌≢◌, ◌⊎◌, inl, inr, ⊎_elim}
-use Rattle.std.proofs.lemmas.Bool.{cases_Bool}
+use Rattle.std.proofs.Common.{◌≡◌, ℕ, zero, suc, ◌+◌, ◌*◌, ◌<◌, ◌≤◌, true, nat_lt, List, [], ◌∷◌, length, set, get_or, refl, arith, get_or-set_other, ◌≢◌, ◌⊎◌}
 use Rattle.std.proofs.lemmas.Bool.Decides.{nat_tests}
 use Rattle.std.proofs.lemmas.Grind.{get_or-set_at}
 use Rattle.std.proofs.lemmas.List.Sums.{sum_by-set, sum_by-le}
 use Rattle.std.proofs.lemmas.List.Elements.{All-from_get_or}
 use Rattle.std.proofs.lemmas.List.FromFn.{get_or-range_with_len}
-use Rattle.secrecy.specs.Rows.{rows_of, cell, columns, is_among, is_place, place_columns, level_columns, region_column}
-use Rattle.secrecy.proofs.Columns.{among-range, level_column}
-use Rattle.filling.specs.Between.{weight, IsLevel}
+use Rattle.secrecy.specs.Rows.{cell, columns, is_among, is_place, place_columns, level_columns}
+use Rattle.secrecy.proofs.Columns.{among-cons, among-range, level_column}
+use Rattle.filling.specs.Between.{weight}
 
 -- the weight of rows of which one number is changed
 pub weight_set : (rank : ℕ → ℕ) (xs : List ℕ) (i v : ℕ) → i < length xs → weight rank (set xs i v) + rank (get_or xs i 0) ≡ weight rank xs + rank v
@@ -25,6 +24,19 @@ place_small p = grind (arith, nat_tests, among-range 0 35 p)
 
 pub level_small : (c : ℕ) → is_among level_columns c ≡ nat_lt c 36
 level_small c = grind (arith, nat_tests, level_column c, place_small c)
+
+-- a number of a list is among its numbers
+pub among_at : (ks : List ℕ) (k : ℕ) → k < length ks → is_among ks (get_or ks k 0) ≡ true
+among_at [] k l = absurd (omega arith)
+among_at (x ∷ ks) zero l = grind (arith, nat_tests, among-cons x ks x)
+among_at (x ∷ ks) (suc k) l = let h = among_at ks k (omega arith) in let c = among-cons x ks (get_or ks k 0) in grind (arith, nat_tests)
+
+levels_length : length level_columns ≡ 36
+unfolding place_columns
+levels_length = refl
+
+pub column_small : (i : ℕ) → i < 36 → get_or level_columns i 0 < columns
+column_small i l = let h = among_at level_columns i (rw levels_length l) in let s = level_small (get_or level_columns i 0) in grind (arith, nat_tests)
 
 pub places_length : length place_columns ≡ 35
 unfolding place_columns

@@ -1,5 +1,5 @@
 -- What words leave behind, and where it is due.
-use Rattle.std.proofs.Common.{◌≡◌, ℕ, ◌+◌, ◌*◌, ◌<◌, ◌≤◌, Bool, true, false, ◌||◌, nat_lt, nat_eq, List, [], ◌∷◌, Some, None, Option, length, get_or, refl, arith, subst, below_more, ◌⊎◌, inl, inr, ⊎_elim, sym, ◌∙◌}
+use Rattle.std.proofs.Common.{◌≡◌, ℕ, ◌+◌, ◌<◌, ◌≤◌, Bool, true, false, nat_lt, nat_eq, List, [], ◌∷◌, Some, None, Option, length, get_or, refl, arith, subst, ◌⊎◌, sym, ◌∙◌}
 use Rattle.std.proofs.lemmas.Bool.Decides.{nat_tests}
 use Rattle.levels.specs.Order.{Meaning, Laws}
 use Rattle.machine.specs.Machine.{Machine, Kind, plain, forks, calls, rets}
@@ -9,29 +9,12 @@ use Rattle.words.specs.declared.route.Route.TheVariants.{To, Jump, Fork, Call, R
 use Rattle.avr.specs.Chip.{kind_by, avr}
 use Rattle.judge.specs.Worked.{callee_of}
 use Rattle.secrecy.specs.Rules.{calls_to}
-use Rattle.secrecy.specs.Rows.{Rows, rows_of, cell, columns, is_place, place_columns}
-use Rattle.secrecy.specs.Flow.{joined, join_of_all, deciding_of, deciding, pc_level, level_after}
-use Rattle.secrecy.specs.Filling.{SameGiven, Below, LeadsBy, Leads, AllHeld, FillsIn, SettledOn, RaisesBelow}
-use Rattle.secrecy.proofs.Fillings.{raises}
-use Rattle.filling.specs.Between.{weight, Between, Due, Departs, DuePlaces, DueRegion, DueAlong, PlacesFlow, RegionFlows, SettledTo, SettledFrom, Raised}
+use Rattle.secrecy.specs.Rows.{Rows, rows_of, is_place, place_columns}
+use Rattle.secrecy.specs.Flow.{joined, join_of_all, deciding_of, pc_level, level_after}
+use Rattle.secrecy.specs.Filling.{SameGiven, LeadsBy, Leads, AllHeld, SettlesIn, SettledOn, RaisesBelow}
+use Rattle.secrecy.proofs.Fillings.{raises, leads_same}
+use Rattle.filling.specs.Between.{Between, Due, Departs, DueAlong, SettledTo, SettledFrom}
 use Rattle.filling.proofs.Sets.{place_small, places_length, place_at}
-
--- one raise after another
-pub raised_then : (rank : ℕ → ℕ) (xs ys zs : List ℕ) (f g : Bool) → Raised rank xs ys f → Raised rank ys zs g → Raised rank xs zs (f || g)
-raised_then rank xs ys zs true true h k = record { more = λ e. let a = h.more refl in let b = k.more refl in omega arith; unchanged = λ e. absurd (cc) }
-raised_then rank xs ys zs true false h k = record { more = λ e. rw (k.unchanged refl) (h.more refl); unchanged = λ e. absurd (cc) }
-raised_then rank xs ys zs false true h k = record { more = λ e. rw (← h.unchanged refl) (k.more refl); unchanged = λ e. absurd (cc) }
-raised_then rank xs ys zs false false h k = record { more = λ e. absurd (cc); unchanged = λ e. k.unchanged refl ∙ h.unchanged refl }
-
-pub not_raised : (rank : ℕ → ℕ) (xs : List ℕ) → Raised rank xs xs false
-not_raised rank xs = record { more = λ e. absurd (cc); unchanged = λ e. refl }
-
--- what holds of each index below i where nothing was raised, and of i, holds of each up to i
-pub settled_more : (P : List ℕ → ℕ → Type 0) (rank : ℕ → ℕ) (ys zs : List ℕ) (f g : Bool) (i : ℕ) → Raised rank ys zs g → (f ≡ false → (a : ℕ) → a < i → P ys a) → (g ≡ false → P zs i) →
-    (f || g) ≡ false → (a : ℕ) → a < i + 1 → P zs a
-settled_more P rank ys zs true g i r before here e = absurd (cc)
-settled_more P rank ys zs false true i r before here e = absurd (cc)
-settled_more P rank ys zs false false i r before here e = below_more (P zs) i (λ a l. subst (λ (xs : List ℕ). P xs a) (sym (r.unchanged refl)) (before refl a l)) (here refl)
 
 -- a word that calls a function is a call of it
 pub called : (k : Kind) (t : ℕ) → calls_to k t ≡ true → (d : ℕ) × (k ≡ calls t d)
@@ -69,17 +52,6 @@ module _ (m : Meaning) (ws : List ℕ) (R : Rows) (a : ℕ) where
       ((k : ℕ) × (k < length ws) × ((d : ℕ) × ((avr ws).kind k ≡ calls (R.function a) d)) × (b ≡ k + 1)) ⊎ ((R.function a ≡ 0) × (b ≡ length ws))
   to_back r i b e way = let w = rw e at way in w
 
--- where a word leads is a matter of given columns
-leads_by : {B V W : Type 0} (m : Meaning) (M : Machine B V W) (R S : Rows) → SameGiven R S → (a : ℕ) (k : Kind) (b : ℕ) → LeadsBy m M R a k b → LeadsBy m M S a k b
-leads_by m M R S same a (plain b' c) b h = h
-leads_by m M R S same a (forks qs b' c b'' c') b h = h
-leads_by m M R S same a (calls t c) b h = h
-leads_by m M R S same a (rets c) b (inl (k, l, w, e)) = inl (k, l, (w.0, rw (← same.function a) w.1), e)
-leads_by m M R S same a (rets c) b (inr (z, e)) = inr (rw (← same.function a) z, e)
-
-pub leads_same : {B V W : Type 0} (m : Meaning) (M : Machine B V W) (R S : Rows) → SameGiven R S → (a b : ℕ) → Leads m M R a b → Leads m M S a b
-leads_same m M R S same a b h = leads_by m M R S same a (M.kind a) b h
-
 module _ (m : Meaning) (laws : Laws m) where
   module _ {B V W : Type 0} (M : Machine B V W) (R : Rows) (held : AllHeld m M R) where
     joined_held : (a : ℕ) (qs : List ℕ) → m.held (joined m (R.region a) (R.level a) qs) ≡ true
@@ -111,35 +83,35 @@ module _ (m : Meaning) (laws : Laws m) where
     abbrev R : Rows
     R = rows_of n rows
 
-    below_all : (other : List ℕ) → FillsIn m (avr ws) given other → RaisesBelow m (avr ws) R (rows_of n other)
-    below_all other fills =
-        raises m laws (avr ws) R (rows_of n other) fills.accepted.1
+    below_all : (other : List ℕ) → SettlesIn m (avr ws) given other → RaisesBelow m (avr ws) R (rows_of n other)
+    below_all other settles =
+        raises m laws (avr ws) R (rows_of n other)
         (record {
-          join_address = λ a. between.same.join_address a ∙ sym (fills.same.join_address a);
-          remaining = λ a. between.same.remaining a ∙ sym (fills.same.remaining a);
-          function = λ a. between.same.function a ∙ sym (fills.same.function a);
+          join_address = λ a. between.same.join_address a ∙ sym (settles.same.join_address a);
+          remaining = λ a. between.same.remaining a ∙ sym (settles.same.remaining a);
+          function = λ a. between.same.function a ∙ sym (settles.same.function a);
         })
-        (between.below other fills)
+        (between.below other settles) settles.settled
 
     back : SameGiven (rows_of n given) R
     back = record { join_address = λ a. sym (between.same.join_address a); remaining = λ a. sym (between.same.remaining a); function = λ a. sym (between.same.function a) }
 
     -- the level of a place after a word is due wherever the word leads
-    due_place : (a b p : ℕ) → a < n → Leads m (avr ws) (rows_of n given) a b → is_place p ≡ true → Due m ws given b p (level_after m (avr ws) R a p)
-    due_place a b p l way place = record {
+    due_place : (a b p : ℕ) → a < n → b ≤ n → Leads m (avr ws) (rows_of n given) a b → is_place p ≡ true → Due m ws given b p (level_after m (avr ws) R a p)
+    due_place a b p l k way place = record {
       held = after_held (avr ws) R between.held a p;
-      below = λ other fills.
-          let f = (below_all other fills).levels a b p l (leads_same m (avr ws) (rows_of n given) R back a b way) place in
+      below = λ other settles.
+          let f = (below_all other settles).levels a b p l k (leads_same m (avr ws) (rows_of n given) R back a b way) place in
           let g = part _ _ _ (between.held.levels b p) (after_held (avr ws) R between.held a p) f in
           grind (arith);
     }
 
-    due_region : (a b : ℕ) → a < n → Leads m (avr ws) (rows_of n given) a b → 0 < R.remaining a → 0 < (rows_of n given).remaining b → Due m ws given b 35 (pc_level m (avr ws) R a)
-    due_region a b l way h k = record {
+    due_region : (a b : ℕ) → a < n → b ≤ n → Leads m (avr ws) (rows_of n given) a b → 0 < R.remaining a → 0 < (rows_of n given).remaining b → Due m ws given b 35 (pc_level m (avr ws) R a)
+    due_region a b l lb way h k = record {
       held = pc_held (avr ws) R between.held a;
-      below = λ other fills.
+      below = λ other settles.
           part _ _ _ (between.held.regions b) (pc_held (avr ws) R between.held a)
-          ((below_all other fills).regions a b l (leads_same m (avr ws) (rows_of n given) R back a b way) h (let e = between.same.remaining b in omega arith));
+          ((below_all other settles).regions a b l lb (leads_same m (avr ws) (rows_of n given) R back a b way) h (let e = between.same.remaining b in omega arith));
     }
 
     pub due_along : (a known : ℕ) (levels : List ℕ) (inside : Bool) → a < n → Departs m ws given rows a levels known → inside ≡ nat_lt 0 (R.remaining a) → DueAlong m ws given a levels inside known
@@ -147,8 +119,8 @@ module _ (m : Meaning) (laws : Laws m) where
       (λ i li.
           let q = place_at i (let z = places_length in omega arith) in
           let place : is_place (get_or place_columns i 0) ≡ true = grind (arith, nat_tests, place_small (get_or place_columns i 0), places_length) in
-          rw (d.each i li) (due_place a b (get_or place_columns i 0) l way place)),
-      (λ h k. rw d.pc_level (due_region a b l way (grind (arith, nat_tests)) k)),
+          rw (d.each i li) (due_place a b (get_or place_columns i 0) l lb way place)),
+      (λ h k. rw d.pc_level (due_region a b l lb way (grind (arith, nat_tests)) k)),
     )
 
     -- what is left behind and flows to a row leaves nothing to raise there
@@ -170,15 +142,3 @@ module _ (m : Meaning) (laws : Laws m) where
     settled_from a known levels inside d e each b l way =
         settled_on a known b levels d
         (subst (λ (v : Bool). SettledTo m ws given rows levels v known b) e (each b l (leads_same m (avr ws) R (rows_of n given) between.same a b way)))
-
-    -- the same of rows that a raise left as they are
-    pub unchanged_from : (rank : ℕ → ℕ) (new : List ℕ) (flag : Bool) (a known : ℕ) (levels : List ℕ) (inside : Bool) → Raised rank rows new flag → flag ≡ false →
-        Departs m ws given rows a levels known → inside ≡ nat_lt 0 (R.remaining a) →
-        ((b : ℕ) → b ≤ n → Leads m (avr ws) (rows_of n given) a b → SettledTo m ws given new levels inside known b) → SettledFrom m ws given new a
-    unchanged_from rank new flag a known levels inside r e d i each =
-        let q = r.unchanged e in
-        subst (λ (xs : List ℕ). SettledFrom m ws given xs a) (sym q) (settled_from a known levels inside d i (λ b l way. subst (λ (xs : List ℕ). SettledTo m ws given xs levels inside known b) q (each b l way)))
-
--- both of two flags
-pub neither : (f g : Bool) → (f || g) ≡ false → (f ≡ false) × (g ≡ false)
-neither f g e = grind (arith, nat_tests)

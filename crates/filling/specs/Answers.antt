@@ -4,7 +4,7 @@ use Rattle.verdicts.specs.Verdict.{Refusal, refusal, fine, refused}
 use Rattle.words.specs.Legal.{word_refusal}
 use Rattle.levels.specs.Order.{Meaning}
 use Rattle.avr.specs.Chip.{avr}
-use Rattle.secrecy.specs.Filling.{FillsIn, LeastIn}
+use Rattle.secrecy.specs.Filling.{FillsIn, LeastIn, LeastSettled}
 use Rattle.judge.specs.Faults.{row_refusal}
 use Rattle.filling.specs.Seeds.{given_verdict}
 use Rattle.filling.specs.declared.fault.FillingFault.{FillingFault}
@@ -44,6 +44,22 @@ module _ (m : Meaning) (ws given old new : List ℕ) where
   Answered (Err (Rows f)) = Unread (filling_refusal (Rows f))
   Answered (Err Unfillable) = NoneFill
 
+  -- what is given is right, and the receiving rows are the least settled ones that have it
+  pub record SettledRows : Type 0 where
+    pub read : given_verdict m ws given old ≡ fine
+    pub least : LeastSettled m (avr ws) given new
+
+  -- by the answer of settling, which asks no further rule
+  abbrev pub SettlingAnswered : Result (Unit {0}) FillingFault → Type 0
+  SettlingAnswered (Ok x) = SettledRows
+  SettlingAnswered (Err (Words f)) = Unread (filling_refusal (Words f))
+  SettlingAnswered (Err (Rows f)) = Unread (filling_refusal (Rows f))
+  SettlingAnswered (Err Unfillable) = ⊥
+
 -- two least sets of rows that fill in what is given are the same
 abbrev pub LeastIsOne : Meaning → List ℕ → List ℕ → Type 0
 LeastIsOne m ws given = (xs ys : List ℕ) → LeastIn m (avr ws) given xs → LeastIn m (avr ws) given ys → xs ≡ ys
+
+-- and so are two least settled sets of rows that have what is given
+abbrev pub LeastSettledIsOne : Meaning → List ℕ → List ℕ → Type 0
+LeastSettledIsOne m ws given = (xs ys : List ℕ) → LeastSettled m (avr ws) given xs → LeastSettled m (avr ws) given ys → xs ≡ ys

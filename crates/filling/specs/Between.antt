@@ -1,11 +1,12 @@
--- Rows on the way from what is given to the least accepted ones. Assumes nothing.
+-- Rows on the way from what is given to the least settled ones. Assumes nothing.
 use Rattle.std.specs.Prelude.{◌≡◌, ℕ, ◌+◌, ◌*◌, ◌≤◌, ◌<◌, Bool, true, false, List, length, slice_index}
 use Rattle.std.specs.List.{sum_by}
 use Rattle.levels.specs.Order.{Meaning}
 use Rattle.avr.specs.Chip.{avr}
 use Rattle.secrecy.specs.Rows.{rows_of, cell, columns, is_among, place_columns, level_columns, region_column}
 use Rattle.secrecy.specs.Flow.{pc_level as pc_level_of, level_after}
-use Rattle.secrecy.specs.Filling.{SameGiven, RowBelow, Below, AllHeld, FillsIn, Leads, SettledOn, Settled}
+use Rattle.filling.specs.Worklists.{lists}
+use Rattle.secrecy.specs.Filling.{SameGiven, RowBelow, Below, AllHeld, SettlesIn, Leads, SettledOn}
 
 -- the sum of the ranks of some numbers, which rises with each level that is raised
 abbrev pub weight : (ℕ → ℕ) → List ℕ → ℕ
@@ -16,18 +17,18 @@ abbrev pub IsLevel : ℕ → Type 0
 IsLevel column = is_among level_columns column ≡ true
 
 module _ (m : Meaning) (ws given : List ℕ) where
-  -- rows that have what is given, and lie at or below all accepted rows that have it
+  -- rows that have what is given, and lie at or below all settled rows that have it
   pub record Between (rows : List ℕ) : Type 0 where
     pub whole : length rows ≡ (length ws + 1) * columns
     pub same : SameGiven (rows_of (length ws) rows) (rows_of (length ws) given)
     pub held : AllHeld m (avr ws) (rows_of (length ws) rows)
     pub above : RowBelow m 0 (rows_of (length ws) given) (rows_of (length ws) rows)
-    pub below : (other : List ℕ) → FillsIn m (avr ws) given other → Below m (rows_of (length ws) rows) (rows_of (length ws) other)
+    pub below : (other : List ℕ) → SettlesIn m (avr ws) given other → Below m (rows_of (length ws) rows) (rows_of (length ws) other)
 
-  -- a level that each accepted set of rows has at least in one column of one row
+  -- a level that each settled set of rows has at least in one column of one row
   pub record Due (row column level : ℕ) : Type 0 where
     pub held : m.held level ≡ true
-    pub below : (other : List ℕ) → FillsIn m (avr ws) given other → m.flows level (cell (length ws) other row column) ≡ true
+    pub below : (other : List ℕ) → SettlesIn m (avr ws) given other → m.flows level (cell (length ws) other row column) ≡ true
 
   -- nothing is left to raise along the ways from the word at an address
   abbrev pub SettledFrom : List ℕ → ℕ → Type 0
@@ -64,7 +65,30 @@ module _ (m : Meaning) (ws given : List ℕ) where
   abbrev pub SettledTo : List ℕ → List ℕ → Bool → ℕ → ℕ → Type 0
   SettledTo rows levels inside known b = PlacesFlow rows b levels × RegionFlows rows inside b known
 
+  -- nothing is left to raise along the ways from any word whose row is not listed
+  abbrev pub Clean : List ℕ → List ℕ → Type 0
+  Clean rows blocks = (a : ℕ) → a < length ws → lists blocks a ≡ false → SettledFrom rows a
+
 -- Rows are raised or stay as they are, as a flag says: a raise makes them weigh more.
 pub record Raised (rank : ℕ → ℕ) (old new : List ℕ) (flag : Bool) : Type 0 where
   pub more : flag ≡ true → weight rank old < weight rank new
   pub unchanged : flag ≡ false → new ≡ old
+
+-- one row has the levels that it had
+pub record SameRow (n : ℕ) (old new : List ℕ) (row : ℕ) : Type 0 where
+  pub levels : (p : ℕ) → (rows_of n new).level row p ≡ (rows_of n old).level row p
+  pub region : (rows_of n new).region row ≡ (rows_of n old).region row
+
+module _ (m : Meaning) (rank : ℕ → ℕ) (n : ℕ) (old new : List ℕ) where
+  -- levels of one row are raised, or nothing is
+  pub record RaisesRow (row : ℕ) (flag : Bool) : Type 0 where
+    pub raised : Raised rank old new flag
+    pub rises : Below m (rows_of n old) (rows_of n new)
+    pub others : (a : ℕ) → (a ≡ row → ⊥) → SameRow n old new a
+
+  -- rows are raised, and listed if they are
+  pub record RaisesListed (before after : List ℕ) (flag : Bool) : Type 0 where
+    pub raised : Raised rank old new flag
+    pub rises : Below m (rows_of n old) (rows_of n new)
+    pub unlisted : (a : ℕ) → lists after a ≡ false → (lists before a ≡ false) × SameRow n old new a
+    pub same_list : flag ≡ false → after ≡ before

@@ -1,4 +1,5 @@
 pub mod Seeds
 pub mod Answers
 pub mod Between
-pub mod Callees
+pub mod Worked
+pub mod Worklists

@@ -1,26 +1,26 @@
 //! Levels filled in.
-ghost use Rattle.std.specs.Prelude.{◌≡◌, ℕ, List, true, false, cond, length, Ok, Err};
+ghost use Rattle.std.specs.Prelude.{◌≡◌, ℕ, ◌%◌, ◌≤◌, ◌&&◌, ◌==◌, List, true, false, cond, nat_le, nat_lt, length, slice_index, Ok, Err};
 ghost use Rattle.filling.specs.declared.fault.FillingFault.TheVariants.{Unfillable};
 ghost use Rattle.verdicts.specs.Verdict.{fine, says};
 ghost use Rattle.words.specs.Legal.{legal_of};
 ghost use Rattle.avr.specs.Chip.{avr};
-ghost use Rattle.secrecy.specs.Rows.{rows_of};
+ghost use Rattle.secrecy.specs.Rows.{rows_of, columns, join_column};
 ghost use Rattle.secrecy.specs.Rules.{length_rule};
 ghost use Rattle.secrecy.specs.Hiding.{Hides};
 ghost use Rattle.secrecy.specs.Filling.{FillsIn, LeastIn};
 ghost use Rattle.judge.specs.Faults.{row_refusal};
-ghost use Rattle.filling.specs.Seeds.{is_read as is_read_at, seed_of, given_verdict};
+ghost use Rattle.filling.specs.Seeds.{is_read as is_read_at, seed_of, FirstAlone, given_verdict};
 ghost use Rattle.filling.specs.Between.{Between};
-ghost use Rattle.filling.specs.Answers.{filling_refusal, zeros_of, Answered, LeastIsOne};
+ghost use Rattle.filling.specs.Answers.{filling_refusal, zeros_of, Answered, LeastIsOne, SettlingAnswered, LeastSettledIsOne};
 
 use crate::fault::FillingFault;
-use crate::reading::{Reading, is_read};
-use crate::settling::{Job, callees};
+use crate::reading::{Reading, is_given};
+use crate::settling::{Job, callees, decode};
 use judge::faults::RowFault;
 use judge::judge;
 use levels::order::Order;
 use levels::ranked::Ranked;
-use row_layout::{COLUMNS, RowsView};
+use row_layout::{COLUMNS, JOIN, RowsView};
 use words::listing::Listing;
 
 /// Whether there are as many numbers as the rows of so many words and the finish row take.
@@ -56,38 +56,89 @@ fn check<O: Order>(
     Ok(())
 }
 
-/// The number at an index of given rows, as it is read: 0 where it is not.
-fn read(index: usize, number: u16) -> u16
+/// The first column that is read of a row, with all behind it: of the first row everything is read, and of any other no level.
+fn first_read(row: usize) -> usize
+    ensures { result ≡ cond (row == 0) 0 join_column }
+{
+    if row == 0 { 0 } else { usize::from(JOIN) }
+}
+
+/// Writes the numbers of given rows from one index up to another to receiving ones.
+#[tactic(auto, using(crate::proofs::Seeding::copied))]
+fn copy(given: &[u16], receiving: &mut [u16], from: usize, to: usize)
+    requires length { length receiving.old ≡ length given.now }
+    requires order { from ≤ to }
+    requires within { to ≤ length given.now }
+    ensures { (k : ℕ) → slice_index receiving.new k ≡ cond (nat_le from k && nat_lt k to) (slice_index given.now k) (slice_index receiving.old k) }
+{
+    receiving[from..to].copy_from_slice(&given[from..to]);
+}
+
+/// Writes what is read of given rows to receiving ones, and 0 elsewhere.
+fn seed(given: &[u16], receiving: &mut [u16])
+    requires length { length receiving.old ≡ length given.now }
+    requires whole { length given.now % columns ≡ 0 }
+    ensures { receiving.new ≡ seed_of given.now }
+{
+    receiving.fill(0);
+    for row in 0..given.len() / COLUMNS {
+        copy(
+            given,
+            receiving,
+            row * COLUMNS + first_read(row),
+            (row + 1) * COLUMNS,
+        );
+    }
+}
+
+/// Whether the number at an index of a list of rows is read.
+fn is_read(index: usize) -> bool
+    ensures { result ≡ is_read_at index }
+{
+    index < COLUMNS || is_given((index % COLUMNS) as u16)
+}
+
+/// The number at an index of given rows, as filling in reads it: 0 where it is not read.
+pub fn read(index: usize, number: u16) -> u16
     ensures { result ≡ cond (is_read_at index) number 0 }
 {
     if is_read(index) { number } else { 0 }
 }
 
-/// Writes what is read of given rows to receiving ones, and 0 elsewhere.
-fn seed(given: &[u16], receiving: &mut [u16])
-    requires { length receiving.old ≡ length given.now }
-    ensures { receiving.new ≡ seed_of given.now }
+/// Writes 0 to every number of some rows.
+fn zero_out(rows: &mut [u16])
+    ensures { rows.new ≡ zeros_of rows.old }
 {
-    for (index, number) in given.iter().enumerate() {
-        receiving[index] = read(index, *number);
-    }
+    rows.fill(0);
 }
 
-/// Raises levels until they settle, and answers whether the judge accepts them; if not, all numbers become 0.
-fn complete<O: Ranked>(job: &Job<'_, O>, rows: &mut [u16]) -> bool
-    requires legal { legal_of job.now.words.now ≡ fine }
-    requires between { Between (O.Order.meaning job.now.order.now) job.now.words.now job.now.given.now rows.old }
-    ensures least { result ≡ true → LeastIn (O.Order.meaning job.now.order.now) (avr job.now.words.now) job.now.given.now rows.new }
-    ensures hides { result ≡ true → Hides (O.Order.meaning job.now.order.now) (avr job.now.words.now) (rows_of (length job.now.words.now) rows.new) }
-    ensures none { result ≡ false → (other : List ℕ) → FillsIn (O.Order.meaning job.now.order.now) (avr job.now.words.now) job.now.given.now other → ⊥ }
-    ensures zeros { result ≡ false → rows.new ≡ zeros_of rows.old }
+/// Raises levels until they settle: the receiving rows become the least rows that have the given join addresses, remaining cycles and
+/// functions, in whose first row no level lies below the given one, and in which every level flows on along every way. The same is read
+/// and refused as by `fill_in`, but for its last refusal: where the judge refuses the settled rows, no accepted rows have what is given,
+/// and the rule that it names is the first that the least levels break. Two least sets of settled rows are the same.
+pub fn settle_levels<O: Ranked>(
+    words: &[u16],
+    given: &[u16],
+    order: &O,
+    receiving: &mut [u16],
+) -> Result<(), FillingFault>
+    ensures answer { SettlingAnswered (O.Order.meaning order.now) words.now given.now receiving.old receiving.new result }
+    ensures one { LeastSettledIsOne (O.Order.meaning order.now) words.now given.now }
 {
-    job.settle(rows);
-    let accepted = judge(job.words, rows, job.order).is_ok();
-    if !accepted {
-        rows.fill(0);
+    if let Err(fault) = check(words, given, order, receiving) {
+        return Err(fault);
     }
-    accepted
+    seed(given, receiving);
+    let instructions = decode(words);
+    let job = Job {
+        words,
+        given,
+        order,
+        instructions,
+        callees: callees(&instructions),
+    };
+    job.settle(receiving);
+    Ok(())
 }
 
 /// Fills levels in: the receiving rows become the least rows that the judge accepts with these words and this order, among those that
@@ -109,19 +160,10 @@ pub fn fill_in<O: Ranked>(
     ensures hides { result ≡ Ok tt → Hides (O.Order.meaning order.now) (avr words.now) (rows_of (length words.now) receiving.new) }
     ensures one { LeastIsOne (O.Order.meaning order.now) words.now given.now }
 {
-    if let Err(fault) = check(words, given, order, receiving) {
-        return Err(fault);
+    settle_levels(words, given, order, receiving)?;
+    if judge(words, receiving, order).is_err() {
+        zero_out(receiving);
+        return Err(FillingFault::Unfillable);
     }
-    seed(given, receiving);
-    let job = Job {
-        words,
-        given,
-        order,
-        callees: callees(words),
-    };
-    if complete(&job, receiving) {
-        Ok(())
-    } else {
-        Err(FillingFault::Unfillable)
-    }
+    Ok(())
 }

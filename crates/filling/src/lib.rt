@@ -10,3 +10,4 @@ pub mod filling;
 mod raising;
 mod reading;
 mod settling;
+mod worklist;

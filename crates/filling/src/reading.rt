@@ -1,14 +1,14 @@
 //! Reading what is given: the first row, and of every other row its join address, remaining cycles and function.
-ghost use Rattle.std.specs.Prelude.{◌≡◌, ◌≤◌, ◌&&◌, ◌==◌};
+ghost use Rattle.std.specs.Prelude.{◌≡◌, ◌≤◌, ◌<◌, ◌&&◌, ◌==◌};
 ghost use Rattle.verdicts.specs.Verdict.{says, first_of};
-ghost use Rattle.secrecy.specs.Rows.{rows_of, cell as cell_of, is_among, given_columns, level_columns as columns_of_levels};
+ghost use Rattle.secrecy.specs.Rows.{rows_of, cell as cell_of, columns, is_among, given_columns, level_columns as columns_of_levels};
 ghost use Rattle.secrecy.specs.Rules.{held_rule, shaped, row_rule, row_rules};
 ghost use Rattle.judge.specs.Faults.{row_refusal};
-ghost use Rattle.filling.specs.Seeds.{seed_of, is_read as is_read_at};
+ghost use Rattle.filling.specs.Seeds.{seed_of};
 
 use judge::faults::RowFault;
 use levels::order::Order;
-use row_layout::{COLUMNS, FUNCTION, JOIN, REGION, REMAINING, RowsView, level_columns};
+use row_layout::{FUNCTION, JOIN, REGION, REMAINING, RowsView, level_columns};
 
 /// Given rows as they are read: what is not read counts as 0.
 #[derive(Drop)]
@@ -20,26 +20,20 @@ pub(crate) struct Reading<'g, O> {
 
 /// Whether a column is given of every row.
 #[tactic(auto, using(crate::proofs::Seeding::given_at))]
-fn is_given(column: u16) -> bool
+pub(crate) fn is_given(column: u16) -> bool
     ensures { result ≡ is_among given_columns column }
 {
     matches!(column, JOIN | REMAINING | FUNCTION)
 }
 
-/// Whether the number at an index of a list of rows is read.
-pub(crate) fn is_read(index: usize) -> bool
-    ensures { result ≡ is_read_at index }
-{
-    index < COLUMNS || is_given((index % COLUMNS) as u16)
-}
-
 impl<O: Order> Reading<'_, O> {
-    /// The number in one column of one row, as it is read.
-    #[tactic(auto, using(crate::proofs::Seeding::seed_cell))]
+    /// The number in one column of one row, as it is read: of the first row all are, and of every other those of given columns.
+    #[tactic(auto, using(crate::proofs::Seeding::seed_cell, crate::proofs::Seeding::read_at))]
     fn cell(&self, row: u16, column: u16) -> u16
+        requires { column < columns }
         ensures { result ≡ cell_of self.now.rows.words (seed_of self.now.rows.rows.now) row column }
     {
-        if is_read(usize::from(row) * COLUMNS + usize::from(column)) {
+        if row == 0 || is_given(column) {
             self.rows.cell(u32::from(row), column)
         } else {
             0
@@ -51,6 +45,10 @@ impl<O: Order> Reading<'_, O> {
     fn check_codes(&self, row: u16) -> Result<(), RowFault>
         ensures { says row_refusal result ≡ first_of (held_rule (O.Order.meaning self.now.order.now) self.now.rows.words (seed_of self.now.rows.rows.now) row) columns_of_levels }
     {
+        // Only the first row's are read, and level 0 is held.
+        if row > 0 {
+            return Ok(());
+        }
         for column in level_columns() {
             if !self.order.holds(self.cell(row, *column)) {
                 return Err(RowFault::NotHeld {

@@ -1,6 +1,6 @@
-use Rattle.std.proofs.Common.{ℕ, arith, sym, ◌∙◌}
+use Rattle.std.proofs.Common.{sym, ◌∙◌}
 use Rattle.avr.specs.Chip.{avr}
-use Rattle.filling.proofs.Ways.{called, uncalled}
+use Rattle.filling.proofs.Ways.{called}
 use Rattle.filling.proofs.settling.Job.raise_caller.Goals as goal
 
 pub raise_along-requires-clause-leads : goal.raise_along-requires-clause-leads
