@@ -34,6 +34,15 @@ pub struct RowLabel {
     len: usize,
 }
 
+impl RowLabel {
+    /// The row of a number, in a routine of `len` words.
+    pub fn new(row: u32, len: usize) -> RowLabel
+        ensures { (result.row ≡ row) × (result.len ≡ len) }
+    {
+        RowLabel { row, len }
+    }
+}
+
 impl fmt::Display for RowLabel {
     fn fmt<W: fmt::Write>(&self, f: &mut fmt::Formatter<W>) -> fmt::Result {
         let row = self.row;
@@ -62,10 +71,7 @@ impl Refusal<'_> {
     pub fn label(&self, row: u32) -> RowLabel
         ensures { (result.row ≡ row) × (result.len ≡ length self.now.routine.words.now) }
     {
-        RowLabel {
-            row,
-            len: self.routine.words.len(),
-        }
+        RowLabel::new(row, self.routine.words.len())
     }
 
     /// What is wrong with the words.

@@ -20,6 +20,7 @@ keyword_of =
     ∷ (codes "rows", keyword.Rows)
     ∷ (codes "row", keyword.Row)
     ∷ (codes "judge", keyword.Judge)
+    ∷ (codes "fill", keyword.Fill)
     ∷ (codes "join", keyword.Join)
     ∷ (codes "clear", keyword.Clear)
     ∷ (codes "put", keyword.Put)

@@ -16,7 +16,7 @@ use Rattle.routine.specs.Keywords.{keyword_of}
 use Rattle.routine.specs.Operands.{Tokens, Read, whole, words_of}
 use Rattle.routine.specs.Orders.{order_of}
 use Rattle.routine.specs.Rows.{row_of}
-use Rattle.routine.specs.Steps.{judge_in, join_in, call_by, clear_in, put_in, run_in, read_in}
+use Rattle.routine.specs.Steps.{judge_in, fill_in, join_in, call_by, clear_in, put_in, run_in, read_in}
 
 -- what a statement says
 pub data Stated : Type 0 where
@@ -45,6 +45,7 @@ statement_of keyword.Order operands = result_map_both order (λ m. m) (order_of 
 statement_of keyword.Rows operands = result_map_both rows (λ m. m) (words_of operands)
 statement_of keyword.Row operands = result_map_both (λ p. row p.0 p.1) (λ m. m) (row_of operands)
 statement_of keyword.Judge operands = step_of (judge_in operands)
+statement_of keyword.Fill operands = step_of (fill_in operands)
 statement_of keyword.Join operands = step_of (join_in operands)
 statement_of keyword.Clear operands = step_of (call_by (clear_in operands))
 statement_of keyword.Put operands = step_of (call_by (put_in operands))

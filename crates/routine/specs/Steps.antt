@@ -10,9 +10,10 @@ use Rattle.avr.specs.declared.location.Location.{Location}
 use Rattle.routine.specs.Operands as operands
 use Rattle.routine.specs.Operands.{Tokens, and_next, number_in, place_in}
 
--- the keyword of a step that needs an order: to judge and to join do, and a call on the boards does not
+-- the keyword of a step that needs an order: to judge, to fill in and to join do, and a call on the boards does not
 abbrev pub keyword_needing_order : Step → Option Keyword
 keyword_needing_order step.Judge = Some keyword.Judge
+keyword_needing_order step.Fill = Some keyword.Fill
 keyword_needing_order (step.Join first second) = Some keyword.Join
 keyword_needing_order (step.Call call) = None
 
@@ -24,6 +25,10 @@ second_byte first (token ∷ tokens) = number_in 0xFF (token ∷ tokens)
 -- a judgement has no operands
 abbrev pub judge_in : Tokens → operands.Read Step
 judge_in tokens = Ok (step.Judge, tokens)
+
+-- nor has filling in
+abbrev pub fill_in : Tokens → operands.Read Step
+fill_in tokens = Ok (step.Fill, tokens)
 
 -- two codes of levels, of 16 bits each
 abbrev pub join_in : Tokens → operands.Read Step

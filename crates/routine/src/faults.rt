@@ -13,7 +13,7 @@ use thiserror::Error;
 #[derive(Clone, Copy, Debug, Error)]
 pub enum Expected {
     /// A keyword, at the beginning of a line.
-    #[error("a keyword: words, order, rows, row, judge, join, clear, put, run or read")]
+    #[error("a keyword: words, order, rows, row, judge, fill, join, clear, put, run or read")]
     Keyword,
     /// An operand, behind a keyword that takes any number of them.
     #[error("at least one operand after the keyword")]
@@ -43,13 +43,13 @@ pub enum Expected {
     #[error("a register, r0 to r255, or an address of the memory, 0 to 65535")]
     Place,
     /// A statement that may stand behind those above it.
-    #[error("words first, then order and rows, and then judge, join and the calls")]
+    #[error("words first, then order and rows, and then judge, fill, join and the calls")]
     Sequence,
     /// No second order.
     #[error("one order at most")]
     OneOrder,
     /// An order, above a statement that asks it.
-    #[error("an order before judge and join")]
+    #[error("an order before judge, fill and join")]
     OrderAbove,
     /// A row that there is.
     #[error("the address of one of the words, or finish")]

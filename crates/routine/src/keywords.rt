@@ -15,6 +15,8 @@ pub enum Keyword {
     Row,
     /// Judges the routine.
     Judge,
+    /// Fills levels in.
+    Fill,
     /// Joins two levels.
     Join,
     /// Clears the boards.
@@ -47,6 +49,7 @@ impl Keyword {
             b"rows" => Some(Keyword::Rows),
             b"row" => Some(Keyword::Row),
             b"judge" => Some(Keyword::Judge),
+            b"fill" => Some(Keyword::Fill),
             b"join" => Some(Keyword::Join),
             b"clear" => Some(Keyword::Clear),
             b"put" => Some(Keyword::Put),
@@ -67,6 +70,7 @@ impl Keyword {
             Keyword::Rows => "rows",
             Keyword::Row => "row",
             Keyword::Judge => "judge",
+            Keyword::Fill => "fill",
             Keyword::Join => "join",
             Keyword::Clear => "clear",
             Keyword::Put => "put",

@@ -57,6 +57,7 @@ fn read_operands(heap: Global, keyword: Keyword, mut line: Line<'_>) -> Result<S
             return Ok(Statement::Row { name, entries });
         }
         Keyword::Judge => Step::Judge,
+        Keyword::Fill => Step::Fill,
         Keyword::Join => read_join(&mut line)?,
         Keyword::Clear => Step::Call(Call::Clear),
         Keyword::Put => Step::Call(read_put(&mut line)?),

@@ -15,6 +15,8 @@ use text::Line;
 pub enum Step {
     /// The routine is judged.
     Judge,
+    /// The levels of its rows are filled in.
+    Fill,
     /// Two levels are joined, each given by its code.
     Join { first: u16, second: u16 },
     /// Both boards of a couple are given a call.
@@ -28,6 +30,7 @@ impl Step {
     {
         match self {
             Step::Judge => Some(Keyword::Judge),
+            Step::Fill => Some(Keyword::Fill),
             Step::Join { .. } => Some(Keyword::Join),
             Step::Call(_) => None,
         }

@@ -26,3 +26,7 @@ returns-in-clear c = sym (ap keyword_of (text_from_reads c.args.token.now (codes
 pub returns-in-read : goal.returns-in-read
 unfolding keyword_of
 returns-in-read c = sym (ap keyword_of (text_from_reads c.args.token.now (codes "read") (omega arith) (search rules)))
+
+pub returns-in-fill : goal.returns-in-fill
+unfolding keyword_of
+returns-in-fill c = sym (ap keyword_of (text_from_reads c.args.token.now (codes "fill") (omega arith) (search rules)))
