@@ -1,2 +1,3 @@
 mod Within
+mod Fills
 pub mod Worst

@@ -7,29 +7,29 @@ use Rattle.program.specs.declared.tasks.Task.{Task}
 use Rattle.program.specs.declared.tasks.Task.TheVariants.{Help, Version, File, Unreadable}
 use Rattle.program.specs.declared.standing.Standing.{Standing}
 use Rattle.program.specs.declared.standing.Standing.TheVariants.{Accepted, Unaccepted, Unread}
-use Rattle.program.specs.Standings.{file_accepted, task_read, task_accepted, TaskStands, TasksStand, worse, status_by}
+use Rattle.program.specs.Standings.{FileAccepted, task_read, TaskAccepted, AllAccepted, TaskStands, TasksStand, worse, status_by}
 
-file_read : (g : Given) → file_accepted g ≡ true → is_ok g ≡ true
+file_read : (g : Given) → FileAccepted g → is_ok g ≡ true
 file_read (Ok d) h = refl
-file_read (Err e) h = cc
+file_read (Err e) h = absurd h
 
-accepted_read : (t : Task) → task_accepted t ≡ true → task_read t ≡ true
+accepted_read : (t : Task) → TaskAccepted t → task_read t ≡ true
 accepted_read Help h = refl
 accepted_read Version h = refl
 accepted_read (File name bytes) h = file_read (routine_of (vec_items bytes)) h
-accepted_read Unreadable h = cc
+accepted_read Unreadable h = absurd h
 
 -- tasks that are all accepted were all read
-all_read : (ts : List Task) → list_all task_accepted ts ≡ true → list_all task_read ts ≡ true
+all_read : (ts : List Task) → AllAccepted ts → list_all task_read ts ≡ true
 all_read [] h = refl
-all_read (t ∷ ts) h = grind (arith, accepted_read t, all_read ts)
+all_read (t ∷ ts) h = grind (arith, accepted_read t h.0, all_read ts h.1)
 
 -- one task more in front
 more_stand : (t : Task) (ts : List Task) (r s : Standing) → TaskStands t r → TasksStand ts s → TasksStand (t ∷ ts) (worse r s)
-more_stand t ts Accepted Accepted h k = grind arith
-more_stand t ts Accepted Unaccepted h k = grind (arith, accepted_read t)
+more_stand t ts Accepted Accepted h k = (h, k)
+more_stand t ts Accepted Unaccepted h k = grind (arith, accepted_read t h)
 more_stand t ts Accepted Unread h k = tt
-more_stand t ts Unaccepted Accepted h k = grind (arith, all_read ts)
+more_stand t ts Unaccepted Accepted h k = grind (arith, all_read ts k)
 more_stand t ts Unaccepted Unaccepted h k = grind arith
 more_stand t ts Unaccepted Unread h k = tt
 more_stand t ts Unread s h k = tt
@@ -63,3 +63,11 @@ carried check Accepted tasks h k = all_read tasks h
 carried check Unaccepted tasks h k = h
 carried true Unread tasks h k = absurd (omega arith)
 carried false Unread tasks h k = absurd (omega arith)
+
+-- and where files are checked, they are accepted
+pub accepted : (check : Bool) (w : Standing) (tasks : List Task) → TasksStand tasks w → check ≡ true → status_by check w ≡ 0 → AllAccepted tasks
+accepted check Accepted tasks h e k = h
+accepted true Unaccepted tasks h e k = absurd (omega arith)
+accepted false Unaccepted tasks h e k = absurd (cc)
+accepted true Unread tasks h e k = absurd (omega arith)
+accepted false Unread tasks h e k = absurd (cc)

@@ -1,3 +1,4 @@
+pub mod Fillings
 pub mod Hidden
 pub mod Joins
 pub mod Options

@@ -1,5 +1,5 @@
 -- How files came out, and how the program ends. Assumes nothing.
-use Rattle.std.specs.Prelude.{◌≡◌, ℕ, Bool, true, false, ◌&&◌, List, Some, None, Ok, Err, Option, vec_items}
+use Rattle.std.specs.Prelude.{◌≡◌, ℕ, Bool, true, false, not, ◌&&◌, ◌||◌, List, [], ◌∷◌, Some, None, Ok, Err, Option, vec_items}
 use Rattle.std.specs.Result.{is_ok}
 use Rattle.std.specs.List.{list_any, list_all}
 use Rattle.verdicts.specs.Verdict.{Verdict, Outcome, made, unmade, fine, refused}
@@ -11,6 +11,7 @@ use Rattle.routine.specs.declared.steps.Step.{Step}
 use Rattle.routine.specs.declared.steps.Step.TheVariants as step
 use Rattle.routine.specs.Routines.{Draft}
 use Rattle.routine.specs.Files.{Given, routine_of}
+use Rattle.program.specs.Fillings.{before_fill, from_fill, FillableUnder}
 use Rattle.program.specs.declared.judging.Judged.{Judged}
 use Rattle.program.specs.declared.judging.Judged.TheVariants as judged
 use Rattle.program.specs.declared.tasks.Task.{Task}
@@ -21,6 +22,7 @@ use Rattle.program.specs.declared.standing.Standing.TheVariants.{Accepted, Unacc
 -- a step judges
 abbrev pub judges : Step → Bool
 judges step.Judge = true
+judges step.Fill = false
 judges (step.Join first second) = false
 judges (step.Call call) = false
 
@@ -44,26 +46,42 @@ abbrev pub accepted_under : Option Meaning → List ℕ → List ℕ → Bool
 accepted_under None ws rows = false
 accepted_under (Some m) ws rows = keeps (judgement_of m ws rows)
 
--- a routine asks for a judgement, and is accepted
-abbrev pub is_accepted : Draft → Bool
-is_accepted d = list_any judges d.steps && accepted_under (named_meaning d.order) d.words d.rows
+-- A routine asks for a judgement, and each judgement that it asks for is acceptance: one before levels are filled in is of the rows that
+-- are given, and one behind that of the rows that are filled in, so that there have to be such.
+pub record AcceptedBy (o : Option Meaning) (d : Draft) : Type 0 where
+  pub asks : list_any judges d.steps ≡ true
+  pub given : list_any judges (before_fill d.steps) ≡ true → accepted_under o d.words d.rows ≡ true
+  pub filled : list_any judges (from_fill d.steps) ≡ true → FillableUnder o d.words d.rows
 
--- what came of judging is acceptance
-abbrev pub judged_accepted : Judged → Bool
-judged_accepted judged.Unasked = false
-judged_accepted judged.Orderless = false
-judged_accepted (judged.Refused f) = false
-judged_accepted judged.Accepted = true
+-- by the order that it names
+abbrev pub IsAccepted : Draft → Type 0
+IsAccepted d = AcceptedBy (named_meaning d.order) d
 
--- how a routine file comes out
-abbrev pub standing_if : Bool → Standing
-standing_if true = Accepted
-standing_if false = Unaccepted
+-- what came of judging the rows that are given goes with the routine
+abbrev pub JudgedOf : Option Meaning → Draft → Judged → Type 0
+JudgedOf o d judged.Unasked = list_any judges (before_fill d.steps) ≡ false
+JudgedOf o d judged.Orderless = (list_any judges (before_fill d.steps) ≡ true) × (accepted_under o d.words d.rows ≡ false)
+JudgedOf o d (judged.Refused f) = (list_any judges (before_fill d.steps) ≡ true) × (accepted_under o d.words d.rows ≡ false)
+JudgedOf o d judged.Accepted = (list_any judges (before_fill d.steps) ≡ true) × (accepted_under o d.words d.rows ≡ true)
 
--- a file is a routine that asks for a judgement, and is accepted
-abbrev pub file_accepted : Given → Bool
-file_accepted (Ok d) = is_accepted d
-file_accepted (Err wrong) = false
+-- Whether each judgement that is asked for is acceptance, by what came of judging the given rows, whether a judgement of rows filled in
+-- is asked for, and whether there are such: one at least has to be asked for.
+abbrev pub comes_out : Judged → Bool → Bool → Bool
+comes_out judged.Unasked asks_filled is_filled = asks_filled && is_filled
+comes_out judged.Orderless asks_filled is_filled = false
+comes_out (judged.Refused f) asks_filled is_filled = false
+comes_out judged.Accepted asks_filled is_filled = not asks_filled || is_filled
+
+-- how a routine comes out tells whether it is accepted
+abbrev pub Tells : Type 0 → Standing → Type 0
+Tells accepted Accepted = accepted
+Tells accepted Unaccepted = accepted → ⊥
+Tells accepted Unread = ⊥
+
+-- a file is a routine that is accepted
+abbrev pub FileAccepted : Given → Type 0
+FileAccepted (Ok d) = IsAccepted d
+FileAccepted (Err wrong) = ⊥
 
 -- what the words of a command line name, loaded: a file that was read is its bytes
 abbrev pub task_read : Task → Bool
@@ -73,29 +91,34 @@ task_read (File name bytes) = is_ok (routine_of (vec_items bytes))
 task_read Unreadable = false
 
 -- and it is accepted; help and version have nothing that could be refused
-abbrev pub task_accepted : Task → Bool
-task_accepted Help = true
-task_accepted Version = true
-task_accepted (File name bytes) = file_accepted (routine_of (vec_items bytes))
-task_accepted Unreadable = false
+abbrev pub TaskAccepted : Task → Type 0
+TaskAccepted Help = Unit {0}
+TaskAccepted Version = Unit {0}
+TaskAccepted (File name bytes) = FileAccepted (routine_of (vec_items bytes))
+TaskAccepted Unreadable = ⊥
+
+-- and so is each of several
+abbrev pub AllAccepted : List Task → Type 0
+AllAccepted [] = Unit {0}
+AllAccepted (task ∷ tasks) = TaskAccepted task × AllAccepted tasks
 
 -- what is known of something, by how it came out; memory may run out, so that of a file that was not carried out nothing is
-abbrev pub Stands : Bool → Bool → Standing → Type 0
-Stands read accepted Accepted = accepted ≡ true
+abbrev pub Stands : Bool → Type 0 → Standing → Type 0
+Stands read accepted Accepted = accepted
 Stands read accepted Unaccepted = read ≡ true
 Stands read accepted Unread = Unit {0}
 
 -- of a file
 abbrev pub FileStands : List ℕ → Standing → Type 0
-FileStands file s = Stands (is_ok (routine_of file)) (file_accepted (routine_of file)) s
+FileStands file s = Stands (is_ok (routine_of file)) (FileAccepted (routine_of file)) s
 
--- of one task, and of several
+-- of one task
 abbrev pub TaskStands : Task → Standing → Type 0
-TaskStands task s = Stands (task_read task) (task_accepted task) s
+TaskStands task s = Stands (task_read task) (TaskAccepted task) s
 
 -- of several tasks, by the one that came out worst
 abbrev pub TasksStand : List Task → Standing → Type 0
-TasksStand tasks s = Stands (list_all task_read tasks) (list_all task_accepted tasks) s
+TasksStand tasks s = Stands (list_all task_read tasks) (AllAccepted tasks) s
 
 -- of two ways to come out the worse one
 abbrev pub worse : Standing → Standing → Standing

@@ -14,8 +14,7 @@ impl Job<'_, '_> {
     /// Whether the finish row hides a place from an observer of level 0; none where there is no order.
     pub(crate) fn hides(self, location: Location) -> Option<bool> {
         let words = self.routine.words.as_slice();
-        let rows = self.routine.rows.as_slice();
-        let routine = RoutineView::new(words, rows);
+        let routine = RoutineView::new(words, self.rows);
         let finish = u32::try_from(words.len()).ok()?;
         Some(is_hidden(self.order?, routine, finish, location))
     }

@@ -1,5 +1,5 @@
 //! What comes of judging a routine.
-ghost use Rattle.std.specs.Prelude.{◌≡◌, ◌&&◌};
+ghost use Rattle.std.specs.Prelude.{◌≡◌};
 ghost use Rattle.std.specs.List.{list_any};
 ghost use Rattle.std.specs.Option.{option_map};
 ghost use Rattle.verdicts.specs.Verdict.{says};
@@ -9,9 +9,9 @@ ghost use Rattle.levels.specs.Pairs.{pair};
 ghost use Rattle.orders.specs.Simples.{meaning_of};
 ghost use Rattle.orders.specs.Making.{made_meaning};
 ghost use Rattle.routine.specs.Routines.{draft_of};
-ghost use Rattle.program.specs.Standings.{judges, accepted_under, judged_accepted, standing_if};
+ghost use Rattle.program.specs.Standings.{judges, JudgedOf};
 
-use crate::standing::Standing;
+use crate::fillings::before_fill;
 use crate::working::Job;
 use explanations::{ColumnName, Refusal};
 use judge::faults::JudgeFault;
@@ -37,24 +37,12 @@ pub(crate) enum Judged {
     Accepted,
 }
 
-impl Judged {
-    /// How a file stands of which this comes.
-    pub(crate) fn standing(self) -> Standing
-        ensures { result ≡ standing_if (judged_accepted self) }
-    {
-        match self {
-            Judged::Accepted => Standing::Accepted,
-            Judged::Unasked | Judged::Orderless | Judged::Refused(_) => Standing::Unaccepted,
-        }
-    }
-}
-
 impl Job<'_, '_> {
-    /// Judges the routine, if a step asks for it.
+    /// Judges the rows that are given, if a step asks for it before any that fills in.
     pub(crate) fn judge(self) -> Judged
-        ensures { judged_accepted result ≡ (list_any judges (draft_of self.entry.routine.now).steps && accepted_under (option_map (λ o. made_meaning o.now) self.entry.order) (draft_of self.entry.routine.now).words (draft_of self.entry.routine.now).rows) }
+        ensures { JudgedOf (option_map (λ o. made_meaning o.now) self.entry.order) (draft_of self.entry.routine.now) result }
     {
-        if !asks(self.routine.steps.as_slice()) {
+        if !asks(before_fill(self.routine.steps.as_slice())) {
             return Judged::Unasked;
         }
         let Some(order) = self.order else {
@@ -101,7 +89,7 @@ impl Job<'_, '_> {
     }
 
     /// Prints on which lines of the file the word and the rows stand that a refusal is about.
-    fn print_lines(self, rt: &HostRuntime, refusal: &Refusal<'_>) -> io::Result<()> {
+    pub(crate) fn print_lines(self, rt: &HostRuntime, refusal: &Refusal<'_>) -> io::Result<()> {
         if let Some(at) = refusal.word()
             && let Some(line) = self.routine.word_line(at)
         {
@@ -123,13 +111,13 @@ impl Job<'_, '_> {
         let label = refusal.label(row);
         match self.routine.row_line(row) {
             Some(line) => println!(rt; "  line {line} has {label}"),
-            None => println!(rt; "  no line has {label}, so all of it is 0"),
+            None => println!(rt; "  no line has {label}, so what is given there is 0"),
         }
     }
 }
 
 /// Whether one of some steps asks for a judgement.
-fn asks(steps: &[Step]) -> bool
+pub(crate) fn asks(steps: &[Step]) -> bool
     ensures { result ≡ list_any judges steps.now }
 {
     steps.iter().any(|step| is_judge(*step))

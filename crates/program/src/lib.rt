@@ -7,11 +7,13 @@
 #![tactic(auto)]
 
 mod calls;
+mod fillings;
 mod hiding;
 mod joining;
 mod judging;
 mod naming;
 mod options;
+mod rows;
 mod showing;
 mod standing;
 mod tasks;
@@ -22,7 +24,7 @@ ghost use Rattle.std.specs.Process.{exit_status};
 ghost use Rattle.verdicts.specs.Verdict.{refused};
 ghost use Rattle.words.specs.Legal.{legal_of, word_refusal};
 ghost use Rattle.routine.specs.Routines.{draft_of};
-ghost use Rattle.program.specs.Standings.{FileStands, standing_if, is_accepted};
+ghost use Rattle.program.specs.Standings.{FileStands, IsAccepted, Tells};
 
 use crate::naming::print_order;
 use crate::options::{Word, check_asked, read_words};
@@ -41,7 +43,7 @@ use words::listing::Listing;
 /// What `--help` prints.
 const HELP: &str = "usage: dulkyamo [--check] [--] [FILE]..
 Carries out each routine FILE in turn, or standard input where none is named, and prints what it carried out.
-A FILE holds statements, one a line; `;` begins a comment. Words come first, then order and rows, then judge, join and the calls:
+A FILE holds statements, one a line; `;` begins a comment. Words come first, then order and rows, then judge, fill, join and the calls:
   words N N ..                   words of the routine
   order chain N | compartments N | table N B B .. | pair ORDER ORDER
                                  the order of secrecy levels
@@ -49,6 +51,8 @@ A FILE holds statements, one a line; `;` begins a comment. Words come first, the
   row finish NAME=VALUE ..       levels at the end
   rows N N ..                    all rows as plain numbers, 39 to a row
   judge                          whether words and rows keep all rules
+  fill                           fills in the least levels that are accepted, from the levels of row 0 and
+                                 join, remaining and function of each row; prints the rows; judge goes by them then
   join CODE CODE                 the level that two levels join to, by their codes
   clear, put PLACE BYTE [BYTE], run LIMIT, read PLACE
                                  calls on two boards, whose answers stand side by side; PLACE is rN or an address
@@ -123,16 +127,21 @@ pub(crate) fn carry_out(rt: &HostRuntime, name: &str, file: &[u8]) -> io::Result
 
 /// Prints what is said of a routine, works its steps, and answers how it came out.
 fn print_routine(rt: &HostRuntime, name: &str, routine: &Routine) -> io::Result<Standing>
-    ensures { IfOk result (λ standing. standing ≡ standing_if (is_accepted (draft_of routine.now))) }
+    ensures { IfOk result (λ standing. Tells (IsAccepted (draft_of routine.now)) standing) }
 {
     println!(rt; "routine {name}")?;
     print_words(rt, routine.words.as_slice())?;
     let made = print_order(rt, routine.order.as_ref())?;
     let order = made.as_ref();
-    let job = Job { routine, order };
+    let job = Job {
+        routine,
+        order,
+        rows: routine.rows.as_slice(),
+    };
     let judged = job.judge();
-    job.work(rt, judged)?;
-    Ok(judged.standing())
+    let filling = job.fill(rt.alloc())?;
+    job.work(rt, judged, &filling)?;
+    Ok(job.standing(judged, &filling))
 }
 
 /// Prints the words as a listing, or why they are none.

@@ -2,7 +2,7 @@
 ghost use Rattle.std.specs.Prelude.{◌≡◌, ◌≤◌, ℕ, IfOk, true};
 ghost use Rattle.std.specs.List.{list_all};
 ghost use Rattle.std.specs.Process.{exit_status};
-ghost use Rattle.program.specs.Standings.{TaskStands, TasksStand, task_read, task_accepted};
+ghost use Rattle.program.specs.Standings.{TaskStands, TasksStand, task_read, AllAccepted};
 
 use crate::options::Word;
 use crate::standing::Standing;
@@ -105,7 +105,7 @@ fn carry_out_all(rt: &HostRuntime, tasks: &[Task]) -> io::Result<Standing>
 /// where each was carried out.
 pub(crate) fn finish(rt: &HostRuntime, check: bool, tasks: &[Task]) -> ExitCode
     ensures carried { exit_status result ≡ 0 → list_all task_read tasks.now ≡ true }
-    ensures accepted { check ≡ true → exit_status result ≡ 0 → list_all task_accepted tasks.now ≡ true }
+    ensures accepted { check ≡ true → exit_status result ≡ 0 → AllAccepted tasks.now }
     ensures known { exit_status result ≤ 2 }
 {
     match carry_out_all(rt, tasks) {

@@ -1,5 +1,6 @@
 //! The steps of a routine, in order.
 use crate::calls::{Written, print_outcome};
+use crate::fillings::Filling;
 use crate::judging::Judged;
 use avr::location::Location;
 use couples::answers::{Answer, Answers};
@@ -14,11 +15,13 @@ use std::io;
 /// How many bytes the memory of a board has.
 const MEMORY: usize = 65536;
 
-/// A routine whose steps are to be worked, and the order that it is judged by, if one was made.
+/// A routine whose steps are to be worked, the order that it is judged by, if one was made, and the rows that hold now: those that are
+/// given, or those that were filled in.
 #[derive(Clone, Copy)]
 pub(crate) struct Job<'r, 'o> {
     pub routine: &'r Routine,
     pub order: Option<&'o Made>,
+    pub rows: &'r [u16],
 }
 
 /// What two boards answered to the calls of a routine, one after another, or why there are none.
@@ -62,18 +65,31 @@ fn live_on_boards(
 }
 
 impl Job<'_, '_> {
-    /// Works the calls on a couple of boards, and prints what each step came to. To judge needs no boards, and changes none.
-    pub(crate) fn work(self, rt: &HostRuntime, judged: Judged) -> io::Result<()> {
+    /// Works the calls on a couple of boards, and prints what each step came to. To judge and to fill in need no boards, and change none.
+    pub(crate) fn work(
+        self,
+        rt: &HostRuntime,
+        judged: Judged,
+        filling: &Filling,
+    ) -> io::Result<()> {
         let steps = self.routine.steps.as_slice();
         let calls = calls_of(rt.alloc(), steps)?;
         let life = live_through(rt.alloc(), self.routine.words.as_slice(), calls.as_slice())?;
+        let mut job = self;
         let mut number = 0usize;
+        let mut is_filled = false;
         for step in steps {
             match *step {
+                Step::Judge if is_filled => filling.print_verdict(rt)?,
                 Step::Judge => self.print_verdict(rt, judged)?,
+                Step::Fill => {
+                    self.print_filling(rt, filling)?;
+                    is_filled = true;
+                    job = self.with_filled(filling);
+                }
                 Step::Join { first, second } => self.join(rt, first, second)?,
                 Step::Call(call) => {
-                    self.print_answers(rt, call, &life, number)?;
+                    job.print_answers(rt, call, &life, number)?;
                     number = number.saturating_add(1);
                 }
             }
