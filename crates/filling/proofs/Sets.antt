@@ -4,7 +4,6 @@ use Rattle.std.proofs.lemmas.Bool.Decides.{nat_tests}
 use Rattle.std.proofs.lemmas.Grind.{get_or-set_at}
 use Rattle.std.proofs.lemmas.List.Sums.{sum_by-set, sum_by-le}
 use Rattle.std.proofs.lemmas.List.Elements.{All-from_get_or}
-use Rattle.std.proofs.lemmas.List.FromFn.{get_or-range_with_len}
 use Rattle.secrecy.specs.Rows.{cell, columns, is_among, is_place, place_columns, level_columns}
 use Rattle.secrecy.proofs.Columns.{among-cons, among-range, level_column}
 use Rattle.filling.specs.Between.{weight}
@@ -38,17 +37,8 @@ levels_length = refl
 pub column_small : (i : ℕ) → i < 36 → get_or level_columns i 0 < columns
 column_small i l = let h = among_at level_columns i (rw levels_length l) in let s = level_small (get_or level_columns i 0) in grind (arith, nat_tests)
 
-pub places_length : length place_columns ≡ 35
-unfolding place_columns
-places_length = refl
-
--- the place at an index of their list has the index for its number
-pub place_at : (i : ℕ) → i < 35 → get_or place_columns i 0 ≡ i
-unfolding place_columns
-place_at i l = let e = get_or-range_with_len 0 35 i 0 l in grind arith
-
-pub place_level : (i : ℕ) → i < 35 → is_among level_columns (get_or place_columns i 0) ≡ true
-place_level i l = grind (arith, nat_tests, place_at i l, level_small i)
+pub place_level : (p : ℕ) → p < 35 → is_among level_columns p ≡ true
+place_level p l = grind (arith, nat_tests, level_small p)
 
 pub region_level : is_among level_columns 35 ≡ true
 region_level = grind (arith, nat_tests, level_small 35)

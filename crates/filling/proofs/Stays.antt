@@ -1,11 +1,11 @@
 -- Words that have nothing to raise: their rows stay as they are, or hold no level above 0.
-use Rattle.std.proofs.Common.{◌≡◌, ℕ, ◌<◌, ◌≤◌, Bool, true, false, cond, nat_lt, List, [], ◌∷◌, length, get_or, refl, arith, sym, ◌∙◌, ap, subst, not, ◌&&◌, ◌==◌}
+use Rattle.std.proofs.Common.{◌≡◌, ℕ, ◌<◌, ◌≤◌, Bool, true, false, cond, nat_lt, List, [], ◌∷◌, length, refl, arith, sym, ◌∙◌, ap, subst, not, ◌&&◌, ◌==◌}
 use mathlib.Core.Path.{fun_ext}
 use Rattle.std.proofs.lemmas.Bool.Decides.{nat_tests}
 use Rattle.levels.specs.Order.{Meaning, Laws}
 use Rattle.machine.specs.Machine.{Machine, Kind}
 use Rattle.avr.specs.Chip.{avr}
-use Rattle.secrecy.specs.Rows.{Rows, rows_of, place_columns}
+use Rattle.secrecy.specs.Rows.{Rows, rows_of}
 use Rattle.secrecy.specs.Flow.{joined, join_of_all, deciding_of, deciding, pc_level, level_after}
 use Rattle.secrecy.specs.Filling.{SameGiven, Below, Leads}
 use Rattle.filling.specs.Between.{Between, Departs, SettledTo, SettledFrom, SameRow, RaisesListed, Clean}
@@ -64,7 +64,7 @@ module _ (m : Meaning) (laws : Laws m) (ws given : List ℕ) where
     settled_after known levels inside d e =
         settled_from m laws ws given new after a known levels inside
         (record {
-          each = λ i l. d.each i l ∙ sym (after_same m (avr ws) a (rows_by rows) (rows_by new) same.levels same.region (get_or place_columns i 0));
+          each = λ p l. d.each p l ∙ sym (after_same m (avr ws) a (rows_by rows) (rows_by new) same.levels same.region p);
           pc_level = d.pc_level ∙ sym (pc_same m (avr ws) a (rows_by rows) (rows_by new) same.levels same.region);
         })
         (e ∙ ap (λ (r : ℕ). nat_lt 0 r) (sym (remains rows new before after a)))

@@ -3,11 +3,11 @@ use Rattle.std.proofs.Common.{◌≡◌, ℕ, ◌<◌, Bool, true, false, ◌||�
 use Rattle.std.proofs.lemmas.Bool.Decides.{nat_tests}
 use Rattle.levels.specs.Order.{Meaning, Laws}
 use Rattle.avr.specs.Chip.{avr}
-use Rattle.secrecy.specs.Rows.{rows_of, cell, place_columns}
+use Rattle.secrecy.specs.Rows.{rows_of, cell}
 use Rattle.secrecy.specs.Filling.{Below, AllHeld}
 use Rattle.filling.specs.Worklists.{lists}
 use Rattle.filling.specs.Between.{PlacesFlow, RegionFlows, SettledTo, Raised, SameRow, RaisesRow, RaisesListed}
-use Rattle.filling.proofs.Sets.{place_small, places_length, place_at}
+use Rattle.filling.proofs.Sets.{place_small}
 
 pub raised_then : (rank : ℕ → ℕ) (xs ys zs : List ℕ) (f g : Bool) → Raised rank xs ys f → Raised rank ys zs g → Raised rank xs zs (f || g)
 raised_then rank xs ys zs true true h k = record { more = λ e. let a = h.more refl in let b = k.more refl in omega arith; unchanged = λ e. absurd (cc) }
@@ -88,7 +88,7 @@ module _ (m : Meaning) (laws : Laws m) where
     flow_kept l p small f = let r = (rises b).levels p in let s = place_small p in laws.transitive _ _ _ f (grind (arith, nat_tests))
 
     pub places_kept : (levels : List ℕ) → PlacesFlow m ws given ys b levels → PlacesFlow m ws given zs b levels
-    places_kept levels h i l = flow_kept (get_or levels i 0) (get_or place_columns i 0) (let q = place_at i (let z = places_length in omega arith) in let z = places_length in omega arith) (h i l)
+    places_kept levels h p l = flow_kept (get_or levels p 0) p l (h p l)
 
     region_kept : (inside : Bool) (known : ℕ) → RegionFlows m ws given ys inside b known → RegionFlows m ws given zs inside b known
     region_kept inside known h i k = laws.transitive _ _ _ (h i k) (rises b).region

@@ -1,5 +1,5 @@
 -- What words leave behind, and where it is due.
-use Rattle.std.proofs.Common.{◌≡◌, ℕ, ◌+◌, ◌<◌, ◌≤◌, Bool, true, false, nat_lt, nat_eq, List, [], ◌∷◌, Some, None, Option, length, get_or, refl, arith, subst, ◌⊎◌, sym, ◌∙◌}
+use Rattle.std.proofs.Common.{◌≡◌, ℕ, ◌+◌, ◌<◌, ◌≤◌, Bool, true, false, nat_lt, nat_eq, List, [], ◌∷◌, Some, None, Option, length, refl, arith, subst, ◌⊎◌, sym, ◌∙◌}
 use Rattle.std.proofs.lemmas.Bool.Decides.{nat_tests}
 use Rattle.levels.specs.Order.{Meaning, Laws}
 use Rattle.machine.specs.Machine.{Machine, Kind, plain, forks, calls, rets}
@@ -9,12 +9,12 @@ use Rattle.words.specs.declared.route.Route.TheVariants.{To, Jump, Fork, Call, R
 use Rattle.avr.specs.Chip.{kind_by, avr}
 use Rattle.judge.specs.Worked.{callee_of}
 use Rattle.secrecy.specs.Rules.{calls_to}
-use Rattle.secrecy.specs.Rows.{Rows, rows_of, is_place, place_columns}
+use Rattle.secrecy.specs.Rows.{Rows, rows_of, is_place}
 use Rattle.secrecy.specs.Flow.{joined, join_of_all, deciding_of, pc_level, level_after}
 use Rattle.secrecy.specs.Filling.{SameGiven, LeadsBy, Leads, AllHeld, SettlesIn, SettledOn, RaisesBelow}
 use Rattle.secrecy.proofs.Fillings.{raises, leads_same}
 use Rattle.filling.specs.Between.{Between, Due, Departs, DueAlong, SettledTo, SettledFrom}
-use Rattle.filling.proofs.Sets.{place_small, places_length, place_at}
+use Rattle.filling.proofs.Sets.{place_small}
 
 -- a word that calls a function is a call of it
 pub called : (k : Kind) (t : ℕ) → calls_to k t ≡ true → (d : ℕ) × (k ≡ calls t d)
@@ -116,10 +116,7 @@ module _ (m : Meaning) (laws : Laws m) where
 
     pub due_along : (a known : ℕ) (levels : List ℕ) (inside : Bool) → a < n → Departs m ws given rows a levels known → inside ≡ nat_lt 0 (R.remaining a) → DueAlong m ws given a levels inside known
     due_along a known levels inside l d e b lb way = (
-      (λ i li.
-          let q = place_at i (let z = places_length in omega arith) in
-          let place : is_place (get_or place_columns i 0) ≡ true = grind (arith, nat_tests, place_small (get_or place_columns i 0), places_length) in
-          rw (d.each i li) (due_place a b (get_or place_columns i 0) l lb way place)),
+      (λ p small. rw (d.each p small) (due_place a b p l lb way (grind (arith, nat_tests, place_small p)))),
       (λ h k. rw d.pc_level (due_region a b l lb way (grind (arith, nat_tests)) k)),
     )
 
@@ -128,10 +125,8 @@ module _ (m : Meaning) (laws : Laws m) where
     settled_on a known b levels d s = record {
       levels = λ p place.
           let small : p < 35 = grind (arith, nat_tests, place_small p) in
-          let li : p < length place_columns = rw places_length small in
-          let f = s.0 p li in
-          let e = d.each p li in
-          let q = place_at p small in
+          let f = s.0 p small in
+          let e = d.each p small in
           grind arith;
       region = λ h k. rw (← d.pc_level) (s.1 (grind (arith, nat_tests)) (let e = between.same.remaining b in omega arith));
     }

@@ -3,7 +3,7 @@ use Rattle.std.specs.Prelude.{◌≡◌, ℕ, ◌+◌, ◌*◌, ◌≤◌, ◌<�
 use Rattle.std.specs.List.{sum_by}
 use Rattle.levels.specs.Order.{Meaning}
 use Rattle.avr.specs.Chip.{avr}
-use Rattle.secrecy.specs.Rows.{rows_of, cell, columns, is_among, place_columns, level_columns, region_column}
+use Rattle.secrecy.specs.Rows.{rows_of, cell, columns, is_among, level_columns, region_column}
 use Rattle.secrecy.specs.Flow.{pc_level as pc_level_of, level_after}
 use Rattle.filling.specs.Worklists.{lists}
 use Rattle.secrecy.specs.Filling.{SameGiven, RowBelow, Below, AllHeld, SettlesIn, Leads, SettledOn}
@@ -11,6 +11,10 @@ use Rattle.secrecy.specs.Filling.{SameGiven, RowBelow, Below, AllHeld, SettlesIn
 -- the sum of the ranks of some numbers, which rises with each level that is raised
 abbrev pub weight : (ℕ → ℕ) → List ℕ → ℕ
 weight rank rows = sum_by rank rows
+
+-- how many places there are: they have the numbers from 0 on, which are their columns
+abbrev pub places : ℕ
+places = 35
 
 -- a column holds the code of a level
 abbrev pub IsLevel : ℕ → Type 0
@@ -35,23 +39,23 @@ module _ (m : Meaning) (ws given : List ℕ) where
   SettledFrom rows a =
       (b : ℕ) → b ≤ length ws → Leads m (avr ws) (rows_of (length ws) rows) a b → SettledOn m (avr ws) (rows_of (length ws) rows) a b
 
-  -- What the word at an address leaves behind by some rows: the level of each place after it, in the order of their columns, and its
+  -- What the word at an address leaves behind by some rows: the level of each place after it, by the place's number, and its
   -- pc_level.
   pub record Departs (rows : List ℕ) (a : ℕ) (levels : List ℕ) (known : ℕ) : Type 0 where
-    pub each : (i : ℕ) → i < length place_columns → slice_index levels i ≡ level_after m (avr ws) (rows_of (length ws) rows) a (slice_index place_columns i)
+    pub each : (p : ℕ) → p < places → slice_index levels p ≡ level_after m (avr ws) (rows_of (length ws) rows) a p
     pub pc_level : known ≡ pc_level_of m (avr ws) (rows_of (length ws) rows) a
 
-  -- levels are due in a row, in the order of the columns of places
+  -- levels are due in a row, place by place
   abbrev pub DuePlaces : ℕ → List ℕ → Type 0
-  DuePlaces b levels = (i : ℕ) → i < length place_columns → Due b (slice_index place_columns i) (slice_index levels i)
+  DuePlaces b levels = (p : ℕ) → p < places → Due b p (slice_index levels p)
 
   -- and a pc_level, if it comes from inside and the row is inside
   abbrev pub DueRegion : Bool → ℕ → ℕ → Type 0
   DueRegion inside b known = inside ≡ true → 0 < (rows_of (length ws) given).remaining b → Due b region_column known
 
-  -- levels flow to those of a row, in that order
+  -- levels flow to those of a row, place by place
   abbrev pub PlacesFlow : List ℕ → ℕ → List ℕ → Type 0
-  PlacesFlow rows b levels = (i : ℕ) → i < length place_columns → m.flows (slice_index levels i) (cell (length ws) rows b (slice_index place_columns i)) ≡ true
+  PlacesFlow rows b levels = (p : ℕ) → p < places → m.flows (slice_index levels p) (cell (length ws) rows b p) ≡ true
 
   -- and so does the pc_level
   abbrev pub RegionFlows : List ℕ → Bool → ℕ → ℕ → Type 0

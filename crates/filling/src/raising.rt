@@ -1,25 +1,19 @@
 //! Levels raised in one row.
 ghost use Rattle.std.specs.Prelude.{◌≡◌, ℕ, ◌+◌, ◌*◌, ◌<◌, ◌≤◌, true, false, not, ◌==◌, length, slice_index, slice_set};
-ghost use Rattle.secrecy.specs.Rows.{rows_of, cell, columns, place_columns as columns_of_places, region_column};
+ghost use Rattle.secrecy.specs.Rows.{rows_of, cell, columns, region_column};
 ghost use Rattle.filling.specs.Between.{IsLevel, Between, Due, DuePlaces, DueRegion, PlacesFlow, RegionFlows, SettledTo, RaisesRow};
 
 use crate::settling::{Departure, Job};
 use levels::ranked::Ranked;
-use row_layout::{COLUMNS, PLACES, REGION, place_columns};
+use row_layout::{COLUMNS, PLACES, REGION};
 
 /// Raises the number at an index to its join with a level, and answers whether that changed it.
-#[tactic(auto, using(crate::proofs::Raises::join_same))]
 fn raise<O: Ranked>(order: &O, rows: &mut [u16], index: usize, level: u16) -> bool
-    requires index { index < length rows.old }
-    requires held { (O.Order.meaning order.now).held level ≡ true }
+    requires { index < length rows.old }
     ensures set { rows.new ≡ slice_set rows.old index ((O.Order.meaning order.now).join (slice_index rows.old index) level) }
     ensures changed { result ≡ not ((O.Order.meaning order.now).join (slice_index rows.old index) level == slice_index rows.old index) }
 {
     let old = rows[index];
-    // A held level joins with itself to itself.
-    if old == level {
-        return false;
-    }
     let joined = order.join(old, level);
     rows[index] = joined;
     joined != old
@@ -46,8 +40,8 @@ impl<O: Ranked> Job<'_, O> {
         raise(self.order, rows, index_of(row, column), level)
     }
 
-    /// Raises the levels of all places in a row to their joins with levels that are due there, in the order of the columns of places,
-    /// and answers whether that changed one.
+    /// Raises the levels of all places in a row to their joins with levels that are due there, by the numbers of the places, and answers
+    /// whether that changed one.
     #[tactic(auto, using(crate::proofs::Sets::place_level))]
     fn raise_places(&self, rows: &mut [u16], row: u16, levels: &[u16; PLACES]) -> bool
         requires between { Between (O.Order.meaning self.now.order.now) self.now.words.now self.now.given.now rows.old }
@@ -57,10 +51,9 @@ impl<O: Ranked> Job<'_, O> {
         ensures raises { RaisesRow (O.Order.meaning self.now.order.now) (O.rank_of self.now.order.now) (length self.now.words.now) rows.old rows.new row result }
         ensures settled { PlacesFlow (O.Order.meaning self.now.order.now) self.now.words.now self.now.given.now rows.new row levels.now }
     {
-        let columns = place_columns();
         let mut changed = false;
-        for index in 0..PLACES {
-            changed |= self.raise_cell(rows, row, columns[index], levels[index]);
+        for place in 0..PLACES {
+            changed |= self.raise_cell(rows, row, place as u16, levels[place]);
         }
         changed
     }

@@ -10,7 +10,7 @@ ghost use Rattle.judge.specs.Worked.{callee_of};
 ghost use Rattle.filling.specs.Worked.{Decoded, Callees};
 ghost use Rattle.filling.specs.Worklists.{lists};
 ghost use Rattle.filling.specs.Seeds.{FirstAlone};
-ghost use Rattle.filling.specs.Between.{Between, Departs, DueAlong, SettledTo, SettledFrom, Clean, Raised, RaisesListed};
+ghost use Rattle.filling.specs.Between.{places, Between, Departs, DueAlong, SettledTo, SettledFrom, Clean, Raised, RaisesListed};
 
 use crate::worklist::Worklist;
 use avr::table::written;
@@ -39,7 +39,7 @@ pub(crate) struct Job<'j, O> {
     ghost calls: { Callees instructions callees },
 }
 
-/// What the word at an address leaves behind: the level of each place after it, in the order of their columns, its pc_level, and
+/// What the word at an address leaves behind: the level of each place after it, by the place's number, its pc_level, and
 /// whether it stands inside a region.
 #[derive(Clone, Copy)]
 pub(crate) struct Departure {
@@ -105,12 +105,12 @@ impl<O: Ranked> Job<'_, O> {
         self.instructions[usize::from(at)]
     }
 
-    /// The level of each place after the word at an address, in the order of their columns: what the row says, but for the places that
-    /// the word writes.
+    /// The level of each place after the word at an address, by the place's number: what the row says, but for the places that the word
+    /// writes.
     fn levels_after(&self, rows: &[u16], at: u16) -> [u16; PLACES]
         requires whole { length rows.now ≡ (length self.now.words.now + 1) * columns }
         requires at { at < length self.now.words.now }
-        ensures { (place : ℕ) → place < 35 → slice_index result place ≡ level_after_of (O.Order.meaning self.now.order.now) (avr self.now.words.now) (rows_of (length self.now.words.now) rows.now) at place }
+        ensures { (place : ℕ) → place < places → slice_index result place ≡ level_after_of (O.Order.meaning self.now.order.now) (avr self.now.words.now) (rows_of (length self.now.words.now) rows.now) at place }
     {
         let leveling = Leveling {
             routine: RoutineView::new(self.words, rows),

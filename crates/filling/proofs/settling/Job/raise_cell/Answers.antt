@@ -1,8 +1,8 @@
 use Rattle.filling.proofs.Raises.{in_rows, between_raise, raises_row, settled}
 use Rattle.filling.proofs.settling.Job.raise_cell.Goals as goal
 
-pub raise-requires-clause-index : goal.raise-requires-clause-index
-raise-requires-clause-index g c =
+pub raise-requires : goal.raise-requires
+raise-requires g c =
     let m = g.O.Order.meaning c.args.self.now.order.now in
     rw c.index_of.ensures (in_rows m (g.met.O.Order.lawful c.args.self.now.order.now) _ _ _ c.requires.between c.args.row c.args.column c.args.level c.requires.row c.requires.column c.requires.due)
 
