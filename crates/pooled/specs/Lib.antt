@@ -1,0 +1,3 @@
+pub mod Pools
+pub mod Sequences
+pub mod Pooling
