@@ -5,7 +5,7 @@ ghost use Rattle.avr.specs.Chip.{avr};
 ghost use Rattle.secrecy.specs.Rows.{rows_of};
 ghost use Rattle.secrecy.specs.Hiding.{Hides};
 ghost use Rattle.judge.specs.Faults.{judge_refusal};
-ghost use Rattle.judge.specs.Judgement.{judgement_of, Exactly};
+ghost use Rattle.judge.specs.Judgement.{judgement_of, alone_of, Exactly};
 ghost use Rattle.judge.specs.Refused.{RefusesExactly};
 
 use crate::faults::JudgeFault;
@@ -38,4 +38,16 @@ pub fn judge<O: Order>(words: &[u16], rows: &[u16], order: &O) -> Result<(), Jud
     ensures hides { result ≡ Ok tt → Hides (O.Order.meaning order.now) (avr words.now) (rows_of (length words.now) rows.now) }
 {
     find_fault(words, rows, order)
+}
+
+/// Checks words, and then rows on their own: that there are as many numbers as the words call for, and, row by row, that its codes are held
+/// and that it has its shape. What it refuses for, 1 to 5, the judge refuses for alike. Where words lead, and what they do to levels, is
+/// not asked. Anything may be passed.
+pub fn check_rows<O: Order>(words: &[u16], rows: &[u16], order: &O) -> Result<(), JudgeFault>
+    ensures { says judge_refusal result ≡ alone_of (O.Order.meaning order.now) words.now rows.now }
+{
+    Listing::check(words)?;
+    let judgement = Judgement::try_new(words, rows, order)?;
+    judgement.check_rows()?;
+    Ok(())
 }

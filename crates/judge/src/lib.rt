@@ -9,4 +9,4 @@ pub mod faults;
 mod judgement;
 mod judging;
 
-pub use judging::judge;
+pub use judging::{check_rows, judge};

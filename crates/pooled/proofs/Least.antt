@@ -3,10 +3,10 @@ use Rattle.std.proofs.Common.{◌≡◌, ℕ, ◌<◌, true, List, ◌∙◌, sy
 use Rattle.std.proofs.lemmas.Bool.Decides.{nat_tests}
 use Rattle.verdicts.specs.Verdict.{fine}
 use Rattle.levels.specs.Order.{Meaning, Laws}
-use Rattle.secrecy.specs.Rows.{Rows, rows_of, cell}
-use Rattle.pooled.specs.Pools.{pool_of, set_verdict, Fit, LiesAbove, LeastOfBoth}
+use Rattle.secrecy.specs.Rows.{Rows, rows_of, cell, is_among, given_columns}
+use Rattle.pooled.specs.Pools.{pool_of, set_verdict, Fit, LiesAbove, LeastOfBoth, CellsPooled}
 use Rattle.pooled.proofs.Joined.{Joined, shape}
-use Rattle.pooled.proofs.Sets.{SetRight, set_says, cell_held, level_held, level_small, same_from}
+use Rattle.pooled.proofs.Sets.{SetRight, set_says, cell_held, level_held, level_small, given_at, same_from}
 use Rattle.pooled.proofs.Cells.{pool_length, pool_level, pool_joined}
 
 module _ (m : Meaning) (laws : Laws m) (n : ℕ) (xs ys : List ℕ) (fit : Fit m n xs ys) where
@@ -27,6 +27,23 @@ module _ (m : Meaning) (laws : Laws m) (n : ℕ) (xs ys : List ℕ) (fit : Fit m
 
   joined : Joined m R S T
   joined = pool_joined m xs ys laws n x.whole (same_from n xs ys fit.same)
+
+  given_cells : (a c : ℕ) → is_among given_columns c ≡ true → (cell n (pool_of m xs ys) a c ≡ cell n xs a c) × (cell n (pool_of m xs ys) a c ≡ cell n ys a c)
+  given_cells a c e =
+      let j = joined.first.join_address a in
+      let r = joined.first.remaining a in
+      let f = joined.first.function a in
+      let j' = joined.second.join_address a in
+      let r' = joined.second.remaining a in
+      let f' = joined.second.function a in
+      (grind (arith, nat_tests, given_at c), grind (arith, nat_tests, given_at c))
+
+  pub pool_cells : CellsPooled m n xs ys (pool_of m xs ys)
+  pool_cells = record {
+    levels = λ a c e. pool_level m xs ys laws n x.whole a c (grind (arith, nat_tests, level_small c));
+    first = λ a c e. (given_cells a c e).0;
+    second = λ a c e. (given_cells a c e).1;
+  }
 
   pub pool_first : LiesAbove m n xs (pool_of m xs ys)
   pool_first = record {

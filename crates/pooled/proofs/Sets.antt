@@ -1,18 +1,18 @@
 -- What the checks of a set of rows say, and of two sets' given columns.
-use Rattle.std.proofs.Common.{◌≡◌, ℕ, ◌+◌, ◌*◌, ◌<◌, true, nat_lt, List, length, arith}
+use Rattle.std.proofs.Common.{◌≡◌, ℕ, ◌+◌, ◌*◌, ◌/◌, ◌%◌, ◌<◌, ◌≤◌, true, nat_lt, nat_eq, ◌==◌, ◌||◌, ◌⊎◌, inl, inr, ⊎_elim, List, [], ◌∷◌, length, get_or, sym, ap, arith}
 use Rattle.std.proofs.lemmas.Bool.Decides.{Decides-eqb, nat_tests}
-use Rattle.verdicts.specs.Verdict.{fine, first_of}
-use Rattle.verdicts.proofs.Firsts.{and_fine, then-on}
+use Rattle.verdicts.specs.Verdict.{Refusal, number_of, fine, refused, first_of}
+use Rattle.verdicts.proofs.Firsts.{and_fine, then-on, then_broken, rule_broken, first_named, first_of_named}
 use Rattle.levels.specs.Order.{Meaning, Laws}
 use Rattle.machine.specs.Machine.{Machine}
-use Rattle.secrecy.specs.Rows.{rows_of, cell, columns, is_among, is_place, level_columns, place_columns}
+use Rattle.secrecy.specs.Rows.{Rows, rows_of, cell, columns, is_among, is_place, level_columns, given_columns, place_columns}
 use Rattle.secrecy.specs.Rules.{length_rule, held_rule, shape_rule, row_rule, row_rules}
 use Rattle.secrecy.specs.Accepted.{Shape, Accepts}
 use Rattle.secrecy.specs.Filling.{SameGiven, AllHeld}
-use Rattle.secrecy.proofs.Columns.{among-range, level_column}
+use Rattle.secrecy.proofs.Columns.{among-nil, among-cons, among-range, level_column}
 use Rattle.secrecy.proofs.Says.{Says, says_rule, says_then, says_first, says_first_of}
 use Rattle.secrecy.proofs.Meanings.{shape_says, rules}
-use Rattle.pooled.specs.Pools.{set_verdict, given_rule, given_rules}
+use Rattle.pooled.specs.Pools.{is_level, set_verdict, given_rule, given_rules}
 
 -- places are the columns below that of the region level
 pub place_small : (p : ℕ) → is_place p ≡ nat_lt p 35
@@ -21,6 +21,17 @@ place_small p = grind (arith, nat_tests, among-range 0 35 p)
 
 pub level_small : (c : ℕ) → is_among level_columns c ≡ nat_lt c 36
 level_small c = grind (arith, nat_tests, level_column c, place_small c)
+
+pub given_at : (c : ℕ) → is_among given_columns c ≡ (nat_eq 36 c || (nat_eq 37 c || nat_eq 38 c))
+given_at c = grind (arith, nat_tests, among-nil c, among-cons 38 [] c, among-cons 37 (38 ∷ []) c, among-cons 36 (37 ∷ (38 ∷ [])) c)
+
+-- the number at an index is the code of a level where its column is one
+pub level_at : (i : ℕ) → is_level i ≡ nat_lt (i % columns) 36
+level_at i = level_small (i % columns)
+
+-- rows that pass the rule on their length are as long as it says
+pub whole_from : (n : ℕ) (rows : List ℕ) → length_rule n rows ≡ fine → length rows ≡ (n + 1) * columns
+whole_from n rows = (says_rule (length rows == (n + 1) * columns) 3 [] (Decides-eqb (length rows) ((n + 1) * columns))).0
 
 module _ (m : Meaning) (n : ℕ) (rows : List ℕ) where
   -- a row on its own: its codes are held, and it has its shape
@@ -48,8 +59,41 @@ module _ (m : Meaning) (n : ℕ) (rows : List ℕ) where
     pub cell_held : (a c : ℕ) → c < 36 → m.held (cell n rows a c) ≡ true
     cell_held a c l = grind (arith, nat_tests, level_small c, (λ (l : a < n + 1). (right.each a l).held c), laws.zero_held)
 
+    pub number_held : (i : ℕ) → i < length rows → is_level i ≡ true → m.held (get_or rows i 0) ≡ true
+    number_held i l e =
+        let w = right.whole in
+        let q : i / columns * columns + i % columns ≡ i = omega arith in
+        let k : i / columns ≤ n = omega arith in
+        let c : i % columns < 36 = grind (arith, nat_tests, level_at i) in
+        let h = cell_held (i / columns) (i % columns) c in
+        grind (arith, nat_tests)
+
     pub level_held : (a p : ℕ) → m.held ((rows_of n rows).level a p) ≡ true
     level_held a p = grind (arith, nat_tests, place_small p, cell_held a p, laws.zero_held)
+
+  -- what is refused of a set is refused by 3, 4 or 5
+  abbrev pub OfSet : Refusal → Type 0
+  OfSet r = (number_of r ≡ 3) ⊎ ((number_of r ≡ 4) ⊎ (number_of r ≡ 5))
+
+  code_number : (row : ℕ) (r : Refusal) → first_of (held_rule m n rows row) level_columns ≡ refused r → number_of r ≡ 4
+  code_number row r e =
+      let b = first_of_named (held_rule m n rows row) level_columns r e in
+      let p = rule_broken _ _ _ r b.broken in
+      ap number_of (sym p.1)
+
+  row_number : (row : ℕ) (r : Refusal) → row_rule m n rows row ≡ refused r → OfSet r
+  row_number row r e =
+      ⊎_elim
+      (λ (f : first_of (held_rule m n rows row) level_columns ≡ refused r). inr (inl (code_number row r f)))
+      (λ f. let p = rule_broken _ _ _ r f.1 in inr (inr (ap number_of (sym p.1))))
+      (then_broken _ _ r e)
+
+  pub set_number : (r : Refusal) → set_verdict m n rows ≡ refused r → OfSet r
+  set_number r e =
+      ⊎_elim
+      (λ (f : length_rule n rows ≡ refused r). let p = rule_broken _ _ _ r f in inl (ap number_of (sym p.1)))
+      (λ f. let b = first_named (row_rule m n rows) (n + 1) r f.1 in row_number b.0 r b.2)
+      (then_broken _ _ r e)
 
 -- two sets with the same given columns
 module _ (n : ℕ) (xs ys : List ℕ) where

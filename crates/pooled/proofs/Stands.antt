@@ -10,7 +10,7 @@ use Rattle.pooled.specs.Pooling.{PoolingFor}
 use Rattle.pooled.proofs.Joined.{joined_accepted}
 use Rattle.pooled.proofs.Sets.{same_from, accepted_right, all_held}
 use Rattle.pooled.proofs.Cells.{pool_length, pool_joined}
-use Rattle.pooled.proofs.Least.{pool_least_of_both}
+use Rattle.pooled.proofs.Least.{pool_cells, pool_least_of_both}
 use Rattle.pooled.proofs.Trees.{any_sequence}
 
 module _ {B V W : Type 0} (m : Meaning) (laws : Laws m) (M : Machine B V W) (xs ys : List ℕ) (x : Accepts m M xs) (y : Accepts m M ys) (given : given_rules M.size xs ys ≡ fine) where
@@ -22,4 +22,4 @@ module _ {B V W : Type 0} (m : Meaning) (laws : Laws m) (M : Machine B V W) (xs 
   )
 
 pub pooling : {B V W : Type 0} → PoolingFor B V W
-pooling = record { accepted = λ m laws M xs ys x y given. pool_accepted m laws M xs ys x y given; least = λ m laws n xs ys fit. pool_least_of_both m laws n xs ys fit; sequences = any_sequence }
+pooling = record { accepted = λ m laws M xs ys x y given. pool_accepted m laws M xs ys x y given; cells = λ m laws n xs ys fit. pool_cells m laws n xs ys fit; least = λ m laws n xs ys fit. pool_least_of_both m laws n xs ys fit; sequences = any_sequence }

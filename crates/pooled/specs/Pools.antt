@@ -1,9 +1,9 @@
 -- Two sets of rows pooled. Assumes nothing.
-use Rattle.std.specs.Prelude.{◌≡◌, ℕ, ◌+◌, ◌%◌, Bool, cond, ◌&&◌, ◌==◌, List, [], ◌∷◌, length, map, slice_index}
+use Rattle.std.specs.Prelude.{◌≡◌, ℕ, ◌+◌, ◌%◌, Bool, true, cond, ◌&&◌, ◌==◌, List, [], ◌∷◌, length, map, slice_index}
 use Rattle.std.specs.List.{range_with_len}
 use Rattle.verdicts.specs.Verdict.{Verdict, fine, and_then, rule, first}
 use Rattle.levels.specs.Order.{Meaning}
-use Rattle.secrecy.specs.Rows.{Rows, rows_of, is_among, level_columns, columns}
+use Rattle.secrecy.specs.Rows.{Rows, rows_of, cell, is_among, level_columns, given_columns, columns}
 use Rattle.secrecy.specs.Rules.{length_rule, row_rules}
 use Rattle.secrecy.specs.Filling.{SameGiven, Below}
 
@@ -46,6 +46,12 @@ module _ (m : Meaning) (n : ℕ) where
   pub record LiesAbove (xs ys : List ℕ) : Type 0 where
     pub same : SameGiven (rows_of n xs) (rows_of n ys)
     pub below : Below m (rows_of n xs) (rows_of n ys)
+
+  -- zs are xs and ys pooled, cell by cell: each level is the join of the two, and the given columns are the common ones
+  pub record CellsPooled (xs ys zs : List ℕ) : Type 0 where
+    pub levels : (row column : ℕ) → is_among level_columns column ≡ true → cell n zs row column ≡ m.join (cell n xs row column) (cell n ys row column)
+    pub first : (row column : ℕ) → is_among given_columns column ≡ true → cell n zs row column ≡ cell n xs row column
+    pub second : (row column : ℕ) → is_among given_columns column ≡ true → cell n zs row column ≡ cell n ys row column
 
   -- the least set of rows that lies at or above both of two
   pub record LeastOfBoth (xs ys zs : List ℕ) : Type 0 where

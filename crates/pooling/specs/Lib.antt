@@ -1,0 +1,3 @@
+pub mod Faults
+pub mod Pooled
+pub mod Largest
