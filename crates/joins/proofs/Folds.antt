@@ -1,6 +1,7 @@
 -- What the laws give of folds.
-use Rattle.std.proofs.Common.{◌≡◌, ℕ, ◌≤◌, true, List, [], ◌∷◌, length, drop, sym, ◌∙◌, drop_of_length-le}
+use Rattle.std.proofs.Common.{◌≡◌, ℕ, ◌≤◌, true, List, [], ◌∷◌, ◌++◌, length, drop, sym, ◌∙◌, drop_of_length-le}
 use Rattle.std.specs.List.{Contains, fold}
+use Rattle.std.proofs.lemmas.List.Sums.{fold-append}
 use Rattle.std.proofs.lemmas.List.Elements.{All-nil, All-cons, All-head, All-tail, All-contains, All-contains_itself, All-weaker}
 use Rattle.joins.specs.Joins.{Joins, JoinLaws, IsBelow}
 use Rattle.joins.specs.Folds.{fold_of, AllMembers, AllBelow, LeastAbove, SameValues, FoldsAlike}
@@ -57,6 +58,26 @@ module _ {T : Type 0} (j : Joins T) (laws : JoinLaws j) where
   fold_least xs all =
       let f = fold_from j.least xs laws.least_member all in
       record { member = f.member; above = f.above; least = λ c m a. f.least c m (laws.neutral c m) a }
+
+  -- a fold from a member on is its join with the fold from the least one on
+  pub fold_of_members : (xs : List T) → AllMembers j xs → j.member (fold_of j xs) ≡ true
+  fold_of_members xs all = (fold_from j.least xs laws.least_member all).member
+
+  pub fold_start : (a : T) (xs : List T) → j.member a ≡ true → AllMembers j xs → fold j.join a xs ≡ j.join a (fold_of j xs)
+  fold_start a [] m all = let e = laws.neutral a m in let f = laws.commutative a j.least m laws.least_member in cc
+  fold_start a (x ∷ xs) m all =
+      let P : T → Type 0 = λ v. j.member v ≡ true in
+      let here = All-head P x xs all in
+      let rest = All-tail P x xs all in
+      let e = fold_start (j.join a x) xs (laws.join_member a x m here) rest in
+      let f = fold_start (j.join j.least x) xs (laws.join_member j.least x laws.least_member here) rest in
+      let g = laws.neutral x here in
+      let h = laws.associative a x (fold_of j xs) m here (fold_of_members xs rest) in
+      cc
+
+  -- the fold of two lists, one after the other
+  pub fold_both : (xs ys : List T) → AllMembers j xs → AllMembers j ys → fold_of j (xs ++ ys) ≡ j.join (fold_of j xs) (fold_of j ys)
+  fold_both xs ys all others = fold-append j.join j.least xs ys ∙ fold_start (fold_of j xs) ys (fold_of_members xs all) others
 
   -- of lists with the same values
   members_too : (xs ys : List T) → SameValues xs ys → AllMembers j xs → AllMembers j ys

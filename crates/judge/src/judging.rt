@@ -47,7 +47,6 @@ pub fn check_rows<O: Order>(words: &[u16], rows: &[u16], order: &O) -> Result<()
     ensures { says judge_refusal result ≡ alone_of (O.Order.meaning order.now) words.now rows.now }
 {
     Listing::check(words)?;
-    let judgement = Judgement::try_new(words, rows, order)?;
-    judgement.check_rows()?;
+    Judgement::try_new(words, rows, order)?.check_rows()?;
     Ok(())
 }

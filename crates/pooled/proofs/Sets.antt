@@ -5,7 +5,7 @@ use Rattle.verdicts.specs.Verdict.{Refusal, number_of, fine, refused, first_of}
 use Rattle.verdicts.proofs.Firsts.{and_fine, then-on, then_broken, rule_broken, first_named, first_of_named}
 use Rattle.levels.specs.Order.{Meaning, Laws}
 use Rattle.machine.specs.Machine.{Machine}
-use Rattle.secrecy.specs.Rows.{Rows, rows_of, cell, columns, is_among, is_place, level_columns, given_columns, place_columns}
+use Rattle.secrecy.specs.Rows.{rows_of, cell, columns, is_among, is_place, level_columns, given_columns, place_columns}
 use Rattle.secrecy.specs.Rules.{length_rule, held_rule, shape_rule, row_rule, row_rules}
 use Rattle.secrecy.specs.Accepted.{Shape, Accepts}
 use Rattle.secrecy.specs.Filling.{SameGiven, AllHeld}

@@ -1,15 +1,19 @@
 -- Poolings of several sets, in every sequence and bracketing.
-use Rattle.std.proofs.Common.{◌≡◌, ℕ, ◌+◌, ◌*◌, ◌/◌, ◌%◌, ◌<◌, ◌≤◌, inl, inr, List, get_or, refl, sym, ◌∙◌, arith}
+use Rattle.std.proofs.Common.{◌≡◌, ℕ, ◌+◌, ◌*◌, ◌/◌, ◌%◌, ◌<◌, ◌≤◌, true, inl, inr, List, [], get_or, ap, refl, sym, ◌∙◌, arith}
 use Rattle.std.proofs.lemmas.Bool.Decides.{nat_tests}
-use Rattle.std.proofs.lemmas.List.{ext_get_or}
+use Rattle.std.proofs.lemmas.List.{ext_get_or, map-append}
+use Rattle.std.proofs.lemmas.List.Elements.{All-nil, All-cons, All-append}
+use Rattle.joins.specs.Folds.{fold_of, AllMembers}
+use Rattle.joins.specs.Ends.{levels_of, levels_laws}
+use Rattle.joins.proofs.Folds.{fold_both}
 use Rattle.verdicts.specs.Verdict.{fine}
 use Rattle.levels.specs.Order.{Meaning, Laws}
-use Rattle.secrecy.specs.Rows.{Rows, rows_of, cell, columns}
+use Rattle.secrecy.specs.Rows.{Rows, rows_of, cell, is_among, level_columns, columns}
 use Rattle.secrecy.specs.Filling.{SameGiven}
 use Rattle.pooled.specs.Pools.{set_verdict, Fit, LiesAbove}
-use Rattle.pooled.specs.Sequences.{Pooling, set, both, rows_by, IsPooled, CarriedOut, AnySequence}
-use Rattle.pooled.proofs.Sets.{SetRight, set_says, cell_held, level_held, place_small, same_back}
-use Rattle.pooled.proofs.Least.{pool_first, pool_second, pool_least, pool_right}
+use Rattle.pooled.specs.Sequences.{Pooling, set, both, rows_by, IsPooled, SameSets, CarriedOut, AllFit, sets_of, cells_of, AnySequence}
+use Rattle.pooled.proofs.Sets.{SetRight, set_says, cell_held, level_held, place_small, level_small, same_from, same_back}
+use Rattle.pooled.proofs.Least.{pool_cells, pool_first, pool_second, pool_least, pool_right}
 
 same_along : (R S T : Rows) → SameGiven R S → SameGiven S T → SameGiven R T
 same_along R S T f g = record {
@@ -101,8 +105,25 @@ module _ (m : Meaning) (laws : Laws m) (n : ℕ) where
         } in
         ((fit, f.0, g.0), same_along _ _ _ (same_turned _ _ (pool_first m laws n (rows_by m p) (rows_by m q) fit).same) f.1)
 
-  pub any_sequence : AnySequence m n
-  any_sequence p q e same =
+  -- any two sets of a tree that is carried out fit
+  tree_fit : (p : Pooling) → CarriedOut m n p → AllFit m n p
+  tree_fit p e xs ys x y = record {
+    first = tree_sets p e xs x;
+    second = tree_sets p e ys y;
+    same = same_back n xs ys (same_along _ _ _ (tree_above p e xs x).same (same_turned _ _ (tree_above p e ys y).same));
+  }
+
+  -- a tree has a set
+  some_set : (p : Pooling) → (xs : List ℕ) × IsPooled p xs
+  some_set (set xs) = (xs, refl)
+  some_set (both p q) = let s = some_set p in (s.0, inl s.1)
+
+  fit_carried : (p : Pooling) → AllFit m n p → CarriedOut m n p
+  fit_carried p fit =
+      let s = some_set p in (tree_carried (rows_of n s.0) p (λ xs i. let f = fit xs s.0 i s.1 in (f.first, same_from n xs s.0 f.same))).0
+
+  any_same : (p q : Pooling) → CarriedOut m n p → SameSets p q → CarriedOut m n q × (rows_by m p ≡ rows_by m q)
+  any_same p q e same =
       let R = rows_of n (rows_by m p) in
       let c = tree_carried R q (λ xs i. let h = same.back xs i in (tree_sets p e xs h, (tree_above p e xs h).same)) in (
         c.0,
@@ -110,3 +131,22 @@ module _ (m : Meaning) (laws : Laws m) (n : ℕ) where
             (tree_least p e _ (λ xs i. tree_above q c.0 xs (same.there xs i)))
             (tree_least q c.0 _ (λ xs i. tree_above p e xs (same.back xs i))),
       )
+
+  module _ (row column : ℕ) (level : is_among level_columns column ≡ true) where
+    small : column < 36
+    small = grind (arith, nat_tests, level_small column)
+
+    cells_held : (p : Pooling) → CarriedOut m n p → AllMembers (levels_of m) (cells_of n p row column)
+    cells_held (set xs) e = All-cons (λ x. m.held x ≡ true) _ [] (cell_held m n xs laws ((set_says m n xs).0 e) row column small) (All-nil (λ x. m.held x ≡ true))
+    cells_held (both p q) e =
+        rw (map-append (λ xs. cell n xs row column) (sets_of p) (sets_of q)) (All-append (λ x. m.held x ≡ true) _ _ (cells_held p e.1) (cells_held q e.2))
+
+    tree_folds : (p : Pooling) → CarriedOut m n p → cell n (rows_by m p) row column ≡ fold_of (levels_of m) (cells_of n p row column)
+    tree_folds (set xs) e = sym ((levels_laws m laws).neutral _ (cell_held m n xs laws ((set_says m n xs).0 e) row column small))
+    tree_folds (both p q) e =
+        (pool_cells m laws n (rows_by m p) (rows_by m q) e.0).levels row column level
+        ∙ (rw (← tree_folds p e.1, ← tree_folds q e.2) at (sym (fold_both (levels_of m) (levels_laws m laws) _ _ (cells_held p e.1) (cells_held q e.2))))
+        ∙ ap (fold_of (levels_of m)) (sym (map-append (λ xs. cell n xs row column) (sets_of p) (sets_of q)))
+
+  pub any_sequence : AnySequence m n
+  any_sequence = record { carried = fit_carried; fit = tree_fit; same = any_same; folds = λ p e row column level. tree_folds row column level p e }

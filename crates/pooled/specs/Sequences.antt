@@ -1,7 +1,10 @@
 -- Several sets of rows pooled, two at a time, in some sequence and bracketing. Assumes nothing.
-use Rattle.std.specs.Prelude.{◌≡◌, ℕ, ◌⊎◌, List}
+use Rattle.std.specs.Prelude.{◌≡◌, ℕ, true, ◌⊎◌, List, [], ◌∷◌, ◌++◌, map}
 use Rattle.verdicts.specs.Verdict.{fine}
 use Rattle.levels.specs.Order.{Meaning}
+use Rattle.joins.specs.Folds.{fold_of}
+use Rattle.joins.specs.Ends.{levels_of}
+use Rattle.secrecy.specs.Rows.{cell, is_among, level_columns}
 use Rattle.pooled.specs.Pools.{pool_of, set_verdict, Fit}
 
 -- a tree of poolings: one set of rows, or what two trees come to, pooled
@@ -29,6 +32,25 @@ abbrev pub CarriedOut : Meaning → ℕ → Pooling → Type 0
 CarriedOut m n (set xs) = set_verdict m n xs ≡ fine
 CarriedOut m n (both p q) = Fit m n (rows_by m p) (rows_by m q) × CarriedOut m n p × CarriedOut m n q
 
--- Where the poolings of a tree are carried out, so are those of every other tree over the same sets, and the same rows come out.
-abbrev pub AnySequence : Meaning → ℕ → Type 0
-AnySequence m n = (p q : Pooling) → CarriedOut m n p → SameSets p q → CarriedOut m n q × (rows_by m p ≡ rows_by m q)
+-- any two of its sets can be pooled
+abbrev pub AllFit : Meaning → ℕ → Pooling → Type 0
+AllFit m n p = (xs ys : List ℕ) → IsPooled p xs → IsPooled p ys → Fit m n xs ys
+
+-- The sets of a tree, from left to right, and the numbers that they have in one column of a row.
+abbrev pub sets_of : Pooling → List (List ℕ)
+sets_of (set xs) = xs ∷ []
+sets_of (both p q) = sets_of p ++ sets_of q
+
+abbrev pub cells_of : ℕ → Pooling → ℕ → ℕ → List ℕ
+cells_of n p row column = map (λ xs. cell n xs row column) (sets_of p)
+
+-- What holds of trees of poolings.
+module _ (m : Meaning) (n : ℕ) where
+  pub record AnySequence : Type 0 where
+    -- the poolings of a tree are carried out if any two of its sets can be pooled, and only then
+    pub carried : (p : Pooling) → AllFit m n p → CarriedOut m n p
+    pub fit : (p : Pooling) → CarriedOut m n p → AllFit m n p
+    -- then those of every other tree over the same sets are carried out, and the same rows come out
+    pub same : (p q : Pooling) → CarriedOut m n p → SameSets p q → CarriedOut m n q × (rows_by m p ≡ rows_by m q)
+    -- each of their levels is the fold of those of all sets
+    pub folds : (p : Pooling) → CarriedOut m n p → (row column : ℕ) → is_among level_columns column ≡ true → cell n (rows_by m p) row column ≡ fold_of (levels_of m) (cells_of n p row column)

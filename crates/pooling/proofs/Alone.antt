@@ -1,14 +1,12 @@
 -- What the judge's check of rows on their own says of a set of rows.
-use Rattle.std.proofs.Common.{◌≡◌, ℕ, ◌⊎◌, inl, inr, ⊎_elim, List, length, Ok, Err, Result, sym, ◌∙◌, arith}
-use Rattle.verdicts.specs.Verdict.{Verdict, Refusal, number_of, fine, refused, says, and_then}
+use Rattle.std.proofs.Common.{◌≡◌, ℕ, List, length, Ok, Err, Result, sym, ◌∙◌, arith}
+use Rattle.verdicts.specs.Verdict.{Verdict, fine, says}
 use Rattle.words.specs.Legal.{legal_of, word_refusal}
 use Rattle.words.specs.declared.fault.WordFault.{WordFault}
-use Rattle.words.specs.declared.fault.WordFault.TheVariants as word
 use Rattle.levels.specs.Order.{Meaning}
-use Rattle.judge.specs.Faults.{row_refusal, flow_refusal, judge_refusal}
+use Rattle.judge.specs.Faults.{flow_refusal, judge_refusal}
 use Rattle.judge.specs.Judgement.{alone_of}
 use Rattle.judge.specs.declared.faults.FlowFault.{FlowFault}
-use Rattle.judge.specs.declared.faults.FlowFault.TheVariants as flow
 use Rattle.judge.specs.declared.faults.JudgeFault.{JudgeFault}
 use Rattle.judge.specs.declared.faults.JudgeFault.TheVariants as judge
 use Rattle.pooled.specs.Pools.{set_verdict}

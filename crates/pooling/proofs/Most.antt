@@ -1,6 +1,5 @@
 -- The largest of some numbers.
-use Rattle.std.proofs.Common.{◌≡◌, ℕ, zero, suc, ◌+◌, ◌<◌, ◌≤◌, max, true, List, length, get_or, ◌⊎◌, inl, inr, ⊎_elim, refl, arith}
-use Rattle.std.specs.List.{All}
+use Rattle.std.proofs.Common.{◌≡◌, ℕ, zero, suc, ◌<◌, ◌≤◌, max, List, length, get_or, ⊎_elim, refl, arith}
 use Rattle.std.proofs.lemmas.Bool.{cases_lt}
 use Rattle.std.proofs.lemmas.Bool.Decides.{nat_tests}
 use Rattle.std.proofs.lemmas.List.Elements.{All-get_or, All-from_get_or}
@@ -36,8 +35,8 @@ largest_of n R xs r l each past least =
     let m = least (all_members xs) in
     let most = most_of R.remaining n in
     let bound : (row : ℕ) → row ≤ n → R.remaining row ≤ r =
-        λ row b. let e = All-get_or (λ x. max x r ≡ r) xs row 0 (omega arith) m.above in let f = each row (omega arith) in grind arith in
+    λ row b. let e = All-get_or (λ x. max x r ≡ r) xs row 0 (omega arith) m.above in let f = each row (omega arith) in grind arith in
     let below : max r (R.remaining most.0) ≡ R.remaining most.0 =
-        m.least (R.remaining most.0) refl (All-from_get_or (λ x. max x (R.remaining most.0) ≡ R.remaining most.0) xs 0 (λ i b. let f = each i b in grind (arith, most.2 i, past i))) in
+    m.least (R.remaining most.0) refl (All-from_get_or (λ x. max x (R.remaining most.0) ≡ R.remaining most.0) xs 0 (λ i b. let f = each i b in grind (arith, most.2 i, past i))) in
     let up = bound most.0 most.1 in
     record { reached = (most.0, most.1, grind arith); bound = bound }

@@ -1,6 +1,6 @@
 -- What holds where nothing is refused.
 use Rattle.std.proofs.Common.{◌≡◌, ℕ, ◌<◌, true, List, length, get_or, sym, ◌∙◌, arith}
-use Rattle.verdicts.specs.Verdict.{Verdict, fine, refused, and_then}
+use Rattle.verdicts.specs.Verdict.{Verdict, fine, and_then}
 use Rattle.verdicts.proofs.Firsts.{and_fine}
 use Rattle.words.specs.Legal.{legal_of}
 use Rattle.levels.specs.Order.{Meaning, Laws}

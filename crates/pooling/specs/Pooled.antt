@@ -1,5 +1,5 @@
 -- What pooling answers and leaves. Assumes nothing.
-use Rattle.std.specs.Prelude.{◌≡◌, ℕ, List, length, Ok, Result}
+use Rattle.std.specs.Prelude.{ℕ, List, length}
 use Rattle.verdicts.specs.Verdict.{Verdict, fine, refused, and_then}
 use Rattle.words.specs.Legal.{legal_of}
 use Rattle.levels.specs.Order.{Meaning}
@@ -7,7 +7,6 @@ use Rattle.secrecy.specs.Rules.{length_rule}
 use Rattle.judge.specs.Judgement.{Passes}
 use Rattle.pooled.specs.Pools.{pool_of, set_verdict, given_rules, Fit, CellsPooled, LeastOfBoth}
 use Rattle.pooling.specs.Faults.{in_set}
-use Rattle.pooling.specs.declared.fault.PoolFault.{PoolFault}
 
 module _ (m : Meaning) (ws xs ys : List ℕ) where
   -- What is refused: the words; receiving rows of another length; the first set on its own, and then the second; and the first row in

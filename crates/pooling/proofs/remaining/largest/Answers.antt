@@ -1,4 +1,4 @@
-use Rattle.std.proofs.Common.{◌≡◌, ℕ, ◌<◌, rules, arith, length}
+use Rattle.std.proofs.Common.{◌≡◌, ℕ, rules, arith, length}
 use Rattle.avr.proofs.Made.{made}
 use Rattle.row_layout.specs.Views.{rows_in}
 use Rattle.pooling.proofs.Most.{largest_of, past}
