@@ -21,7 +21,7 @@ fn is_level(index: usize) -> bool
 }
 
 /// The number at an index of two sets of rows pooled: of two levels, which are held, the join, and else the first one.
-fn pooled<O: Order>(order: &O, index: usize, first: u16, second: u16) -> u16
+fn combine_at<O: Order>(order: &O, index: usize, first: u16, second: u16) -> u16
     requires first { is_level_at index ≡ true → (O.Order.meaning order.now).held first ≡ true }
     requires second { is_level_at index ≡ true → (O.Order.meaning order.now).held second ≡ true }
     ensures { result ≡ cond (is_level_at index) ((O.Order.meaning order.now).join first second) first }
@@ -42,7 +42,7 @@ fn combine<O: Order>(first: &[u16], second: &[u16], order: &O, receiving: &mut [
     ensures { receiving.new ≡ pool_of (O.Order.meaning order.now) first.now second.now }
 {
     for (index, number) in first.iter().enumerate() {
-        receiving[index] = pooled(order, index, *number, second[index]);
+        receiving[index] = combine_at(order, index, *number, second[index]);
     }
 }
 

@@ -25,9 +25,8 @@ fn largest(rows: &RowsView<'_>) -> u16
     fold(&Larger, &remaining)
 }
 
-/// The largest remaining number in the rows of some words, the finish row among them: how many cycles the longest region has. Anything may
-/// be passed. Refused are words that are no listing, and then rows that are not as many numbers as the words call for; nothing else is
-/// asked of the rows.
+/// The largest remaining number in the rows of some words, the finish row among them, in cycles. Anything may be passed. Refused are words that are no
+/// listing, and then rows that are not as many numbers as the words call for; nothing else is asked of the rows.
 pub fn largest_remaining(words: &[u16], rows: &[u16]) -> Result<u16, CountFault>
     ensures refuses { says count_refusal result ≡ count_verdict words.now rows.now }
     ensures largest { IfOk result (LargestRemaining (length words.now) (rows_of (length words.now) rows.now)) }

@@ -1,7 +1,7 @@
 use Rattle.std.proofs.Common.{◌≡◌, true, ◌∙◌, sym}
 use Rattle.joins.specs.Ends.{levels_laws}
 use Rattle.pooled.specs.Pools.{is_level}
-use Rattle.pooling.proofs.combining.pooled.Goals as goal
+use Rattle.pooling.proofs.combining.combine_at.Goals as goal
 
 pub returns-then-is_level : goal.returns-then-is_level
 returns-then-is_level g c =
