@@ -29,6 +29,6 @@ module _ (n : ℕ) (lines : List (List ℕ)) (d : Draft) where
 
 -- the answer of a line, with the number of the line where it is a fault
 pub numbered : (n : ℕ) (r : Result (Unit {0}) Fault) (s : Result (Unit {0}) FileFault) (marks : Fault → FileFault → Type 0) (before after : Routine) (given : Draft → Result Draft Malformed) →
-    MatchResult r (λ x. s ≡ Ok x) (λ f. IsErrAnd s (marks f)) → ((f : Fault) (g : FileFault) → marks f g → g ≡ record { line = n; fault = f }) → Makes r before after given →
+    MatchResult r (λ x. s ≡ Ok x) (λ f. IsErrAnd s (marks f)) → ((f : Fault) (g : FileFault) → marks f g → g ≡ record { line = n; fault = f }) → Makes draft_of r before after given →
     MatchResult s (λ x. given (draft_of before) ≡ Ok (draft_of after)) (λ g. (g.line ≡ n) × Blames (λ m. m) g.fault (given (draft_of before)))
 numbered n r s marks before after given same is made = grind arith

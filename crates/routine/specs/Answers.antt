@@ -10,7 +10,7 @@ use Rattle.routine.specs.declared.faults.FileFault.{FileFault}
 use Rattle.routine.specs.declared.faults.Malformed.{Malformed}
 use Rattle.routine.specs.Operands.{Tokens, Read}
 use Rattle.routine.specs.declared.routines.Routine.{Routine}
-use Rattle.routine.specs.Routines.{Draft, draft_of}
+use Rattle.routine.specs.Routines.{draft_of}
 use Rattle.routine.specs.Files.{lines_from}
 
 -- a fault says what is wrong in the file, and `place` where; or that memory was wanting, which no file decides
@@ -37,10 +37,10 @@ Finds view (Err m) says line rest = says (tokens_left line) ≡ Err m
 abbrev pub Says : {A : Type 0} → (List ℕ → Result A Expected → Type 0) → (List ℕ → Result A Expected) → Type 0
 Says {A} answers says = (token : List ℕ) (r : Result A Expected) → answers token r → r ≡ says token
 
--- what a routine becomes is what is made of it
-abbrev pub Makes : Result (Unit {0}) Fault → Routine → Routine → (Draft → Result Draft Malformed) → Type 0
-Makes (Ok done) before after given = given (draft_of before) ≡ Ok (draft_of after)
-Makes (Err f) before after given = Blames (λ m. m) f (given (draft_of before))
+-- what a routine, or a set of its rows, becomes is what is made of it
+abbrev pub Makes : {A X : Type 0} → (A → X) → Result (Unit {0}) Fault → A → A → (X → Result X Malformed) → Type 0
+Makes view (Ok done) before after given = given (view before) ≡ Ok (view after)
+Makes view (Err f) before after given = Blames (λ m. m) f (given (view before))
 
 -- all lines of a file are read
 abbrev pub ReadsLines : Result (Unit {0}) FileFault → Routine → Routine → List ℕ → Type 0

@@ -9,6 +9,7 @@ pub mod Steps
 pub mod Stretches
 pub mod Rows
 pub mod Statements
+pub mod Sets
 pub mod Routines
 pub mod Files
 pub mod Answers

@@ -36,6 +36,10 @@ abbrev pub whole : {X : Type 0} → Read X → Result X Malformed
 whole (Ok p) = no_more p.0 p.1
 whole (Err m) = Err m
 
+-- what has no operands reads none
+abbrev pub alone : {X : Type 0} → X → Tokens → Read X
+alone x tokens = Ok (x, tokens)
+
 -- what one token says, where something is expected
 abbrev pub one_token : {X : Type 0} → Expected → (List ℕ → Result X Expected) → Tokens → Read X
 one_token something says [] = Err (missing something)

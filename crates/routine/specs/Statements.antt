@@ -1,6 +1,7 @@
 -- The statements of a routine file. Assumes nothing.
 use Rattle.std.specs.Prelude.{ℕ, List, [], ◌∷◌, Some, None, Ok, Err, vec_items, Option, Result}
 use Rattle.std.specs.Result.{result_map_both}
+use Rattle.machine.specs.declared.call.Call.TheVariants.{Clear}
 use Rattle.orders.specs.Written.{Written, written_of}
 use Rattle.routine.specs.declared.faults.Expected.TheVariants as expected
 use Rattle.routine.specs.declared.faults.Malformed.{Malformed}
@@ -11,12 +12,13 @@ use Rattle.routine.specs.declared.rows.RowName.{RowName}
 use Rattle.routine.specs.declared.statements.Statement.{Statement}
 use Rattle.routine.specs.declared.statements.Statement.TheVariants as statement
 use Rattle.routine.specs.declared.steps.Step.{Step}
+use Rattle.routine.specs.declared.steps.Step.TheVariants as steps
 use Rattle.routine.specs.Faults.{wrong}
 use Rattle.routine.specs.Keywords.{keyword_of}
-use Rattle.routine.specs.Operands.{Tokens, Read, whole, words_of}
+use Rattle.routine.specs.Operands.{Tokens, Read, no_more, whole, alone, words_of}
 use Rattle.routine.specs.Orders.{order_of}
 use Rattle.routine.specs.Rows.{row_of}
-use Rattle.routine.specs.Steps.{judge_in, fill_in, join_in, call_by, clear_in, put_in, run_in, read_in}
+use Rattle.routine.specs.Steps.{join_in, call_by, put_in, run_in, read_in}
 
 -- what a statement says
 pub data Stated : Type 0 where
@@ -24,6 +26,7 @@ pub data Stated : Type 0 where
   order : Written → Stated
   rows : List ℕ → Stated
   row : RowName → List Entry → Stated
+  second : Stated
   step : Step → Stated
 
 -- what the code holds of it
@@ -32,6 +35,7 @@ stated_of (statement.Words numbers) = words (vec_items numbers)
 stated_of (statement.Order text) = order (written_of text)
 stated_of (statement.Rows numbers) = rows (vec_items numbers)
 stated_of (statement.Row name entries) = row name (vec_items entries)
+stated_of statement.Second = second
 stated_of (statement.Step s) = step s
 
 -- a statement that is a step and nothing more
@@ -44,10 +48,13 @@ statement_of keyword.Words operands = result_map_both words (λ m. m) (words_of 
 statement_of keyword.Order operands = result_map_both order (λ m. m) (order_of operands)
 statement_of keyword.Rows operands = result_map_both rows (λ m. m) (words_of operands)
 statement_of keyword.Row operands = result_map_both (λ p. row p.0 p.1) (λ m. m) (row_of operands)
-statement_of keyword.Judge operands = step_of (judge_in operands)
-statement_of keyword.Fill operands = step_of (fill_in operands)
+statement_of keyword.Second operands = no_more second operands
+statement_of keyword.Judge operands = step_of (alone steps.Judge operands)
+statement_of keyword.Fill operands = step_of (alone steps.Fill operands)
+statement_of keyword.Pool operands = step_of (alone steps.Pool operands)
+statement_of keyword.Remaining operands = step_of (alone steps.Remaining operands)
 statement_of keyword.Join operands = step_of (join_in operands)
-statement_of keyword.Clear operands = step_of (call_by (clear_in operands))
+statement_of keyword.Clear operands = step_of (call_by (alone Clear operands))
 statement_of keyword.Put operands = step_of (call_by (put_in operands))
 statement_of keyword.Run operands = step_of (call_by (run_in operands))
 statement_of keyword.Read operands = step_of (call_by (read_in operands))

@@ -13,7 +13,7 @@ use thiserror::Error;
 #[derive(Clone, Copy, Debug, Error)]
 pub enum Expected {
     /// A keyword, at the beginning of a line.
-    #[error("a keyword: words, order, rows, row, judge, fill, join, clear, put, run or read")]
+    #[error("a keyword: words, order, rows, row, second, judge, fill, pool, remaining, join, clear, put, run or read")]
     Keyword,
     /// An operand, behind a keyword that takes any number of them.
     #[error("at least one operand after the keyword")]
@@ -43,14 +43,23 @@ pub enum Expected {
     #[error("a register, r0 to r255, or an address of the memory, 0 to 65535")]
     Place,
     /// A statement that may stand behind those above it.
-    #[error("words first, then order and rows, and then judge, fill, join and the calls")]
+    #[error("words first, then order and rows, and then judge, fill, pool, remaining, join and the calls")]
     Sequence,
     /// No second order.
     #[error("one order at most")]
     OneOrder,
     /// An order, above a statement that asks it.
-    #[error("an order before judge, fill and join")]
+    #[error("an order before judge, fill, pool and join")]
     OrderAbove,
+    /// No third set of rows.
+    #[error("one second set of rows at most")]
+    OneSecond,
+    /// A second set of rows, above a statement that asks it.
+    #[error("a second set of rows before pool")]
+    SecondAbove,
+    /// Steps of which a file has one kind.
+    #[error("fill or pool, and not both")]
+    FillOrPool,
     /// A row that there is.
     #[error("the address of one of the words, or finish")]
     Row,
@@ -60,8 +69,8 @@ pub enum Expected {
     /// The name of a column.
     #[error("a name of a row: r0 to r31, c, z, memory, region, join, remaining or function")]
     Column,
-    /// Rows in the form of those above them.
-    #[error("all rows by rows, or all of them by row")]
+    /// Rows in the form of those above them in their set.
+    #[error("all rows of a set by rows, or all of them by row")]
     SameForm,
 }
 

@@ -54,10 +54,10 @@ fn read_line(
     line: Line<'_>,
     routine: &mut Routine,
 ) -> Result<(), Fault>
-    ensures { Makes result routine.old routine.new (λ d. after_line number d (line_left line.entry)) }
+    ensures { Makes draft_of result routine.old routine.new (λ d. after_line number d (line_left line.entry)) }
 {
     match read_statement(heap, line)? {
-        Some(statement) => routine.accept(number, statement),
+        Some(statement) => routine.accept(heap, number, statement),
         None => Ok(()),
     }
 }

@@ -13,10 +13,16 @@ pub enum Keyword {
     Rows,
     /// Values of one row, by name.
     Row,
+    /// The second set of rows.
+    Second,
     /// Judges the routine.
     Judge,
     /// Fills levels in.
     Fill,
+    /// Pools both sets of rows.
+    Pool,
+    /// Tells the largest remaining number.
+    Remaining,
     /// Joins two levels.
     Join,
     /// Clears the boards.
@@ -48,8 +54,11 @@ impl Keyword {
             b"order" => Some(Keyword::Order),
             b"rows" => Some(Keyword::Rows),
             b"row" => Some(Keyword::Row),
+            b"second" => Some(Keyword::Second),
             b"judge" => Some(Keyword::Judge),
             b"fill" => Some(Keyword::Fill),
+            b"pool" => Some(Keyword::Pool),
+            b"remaining" => Some(Keyword::Remaining),
             b"join" => Some(Keyword::Join),
             b"clear" => Some(Keyword::Clear),
             b"put" => Some(Keyword::Put),
@@ -69,8 +78,11 @@ impl Keyword {
             Keyword::Order => "order",
             Keyword::Rows => "rows",
             Keyword::Row => "row",
+            Keyword::Second => "second",
             Keyword::Judge => "judge",
             Keyword::Fill => "fill",
+            Keyword::Pool => "pool",
+            Keyword::Remaining => "remaining",
             Keyword::Join => "join",
             Keyword::Clear => "clear",
             Keyword::Put => "put",

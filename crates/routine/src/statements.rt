@@ -25,6 +25,8 @@ pub enum Statement {
     Rows(Vec<u16>),
     /// Values of one row.
     Row { name: RowName, entries: Vec<Entry> },
+    /// The rows below are those of the second set.
+    Second,
     /// One step more.
     Step(Step),
 }
@@ -56,8 +58,14 @@ fn read_operands(heap: Global, keyword: Keyword, mut line: Line<'_>) -> Result<S
             let (name, entries) = read_row(heap, line)?;
             return Ok(Statement::Row { name, entries });
         }
+        Keyword::Second => {
+            end(line)?;
+            return Ok(Statement::Second);
+        }
         Keyword::Judge => Step::Judge,
         Keyword::Fill => Step::Fill,
+        Keyword::Pool => Step::Pool,
+        Keyword::Remaining => Step::Remaining,
         Keyword::Join => read_join(&mut line)?,
         Keyword::Clear => Step::Call(Call::Clear),
         Keyword::Put => Step::Call(read_put(&mut line)?),

@@ -1,6 +1,6 @@
 //! Steps: what is to be done with a routine.
 ghost use Rattle.std.specs.Prelude.{◌≡◌};
-ghost use Rattle.routine.specs.Steps.{keyword_needing_order, second_byte, join_in, put_in, run_in, read_in};
+ghost use Rattle.routine.specs.Steps.{keyword_needing_order, needs_second, excludes, second_byte, join_in, put_in, run_in, read_in};
 ghost use Rattle.routine.specs.Answers.{Finds};
 
 use crate::faults::Malformed;
@@ -17,6 +17,10 @@ pub enum Step {
     Judge,
     /// The levels of its rows are filled in.
     Fill,
+    /// Both sets of its rows are pooled.
+    Pool,
+    /// The largest remaining number of its rows is told.
+    Remaining,
     /// Two levels are joined, each given by its code.
     Join { first: u16, second: u16 },
     /// Both boards of a couple are given a call.
@@ -31,8 +35,27 @@ impl Step {
         match self {
             Step::Judge => Some(Keyword::Judge),
             Step::Fill => Some(Keyword::Fill),
+            Step::Pool => Some(Keyword::Pool),
             Step::Join { .. } => Some(Keyword::Join),
-            Step::Call(_) => None,
+            Step::Remaining | Step::Call(_) => None,
+        }
+    }
+
+    /// Whether it asks a second set of rows, so that one must have begun above it.
+    pub(crate) fn needs_second(self) -> bool
+        ensures { result ≡ needs_second self }
+    {
+        matches!(self, Step::Pool)
+    }
+
+    /// Whether it cannot stand in one file with another step: levels are filled in or pooled.
+    pub(crate) fn excludes(self, other: Step) -> bool
+        ensures { result ≡ excludes self other }
+    {
+        match self {
+            Step::Fill => matches!(other, Step::Pool),
+            Step::Pool => matches!(other, Step::Fill),
+            Step::Judge | Step::Remaining | Step::Join { .. } | Step::Call(_) => false,
         }
     }
 }

@@ -30,3 +30,11 @@ returns-in-read c = sym (ap keyword_of (text_from_reads c.args.token.now (codes 
 pub returns-in-fill : goal.returns-in-fill
 unfolding keyword_of
 returns-in-fill c = sym (ap keyword_of (text_from_reads c.args.token.now (codes "fill") (omega arith) (search rules)))
+
+pub returns-in-second : goal.returns-in-second
+unfolding keyword_of
+returns-in-second c = sym (ap keyword_of (text_from_reads c.args.token.now (codes "second") (omega arith) (search rules)))
+
+pub returns-in-remaining : goal.returns-in-remaining
+unfolding keyword_of
+returns-in-remaining c = sym (ap keyword_of (text_from_reads c.args.token.now (codes "remaining") (omega arith) (search rules)))
