@@ -1,3 +1,3 @@
 mod Within
-mod Fills
+mod Outcomes
 pub mod Worst

@@ -1,4 +1,4 @@
-pub mod Fillings
+pub mod Makings
 pub mod Hidden
 pub mod Joins
 pub mod Options

@@ -11,7 +11,7 @@ use Rattle.routine.specs.declared.steps.Step.{Step}
 use Rattle.routine.specs.declared.steps.Step.TheVariants as step
 use Rattle.routine.specs.Routines.{Draft}
 use Rattle.routine.specs.Files.{Given, routine_of}
-use Rattle.program.specs.Fillings.{before_fill, from_fill, FillableUnder}
+use Rattle.program.specs.Makings.{before_making, from_making, MadeUnder}
 use Rattle.program.specs.declared.judging.Judged.{Judged}
 use Rattle.program.specs.declared.judging.Judged.TheVariants as judged
 use Rattle.program.specs.declared.tasks.Task.{Task}
@@ -23,6 +23,8 @@ use Rattle.program.specs.declared.standing.Standing.TheVariants.{Accepted, Unacc
 abbrev pub judges : Step → Bool
 judges step.Judge = true
 judges step.Fill = false
+judges step.Pool = false
+judges step.Remaining = false
 judges (step.Join first second) = false
 judges (step.Call call) = false
 
@@ -46,12 +48,12 @@ abbrev pub accepted_under : Option Meaning → List ℕ → List ℕ → Bool
 accepted_under None ws rows = false
 accepted_under (Some m) ws rows = keeps (judgement_of m ws rows)
 
--- A routine asks for a judgement, and each judgement that it asks for is acceptance: one before levels are filled in is of the rows that
--- are given, and one behind that of the rows that are filled in, so that there have to be such.
+-- A routine asks for a judgement, and each judgement that it asks for is acceptance: one before any step that makes rows is of the rows
+-- that are given, and one behind that of the rows that are made, so that there have to be such.
 pub record AcceptedBy (o : Option Meaning) (d : Draft) : Type 0 where
   pub asks : list_any judges d.steps ≡ true
-  pub given : list_any judges (before_fill d.steps) ≡ true → accepted_under o d.words d.rows ≡ true
-  pub filled : list_any judges (from_fill d.steps) ≡ true → FillableUnder o d.words d.rows
+  pub given : list_any judges (before_making d.steps) ≡ true → accepted_under o d.words d.rows.numbers ≡ true
+  pub made : list_any judges (from_making d.steps) ≡ true → MadeUnder o d
 
 -- by the order that it names
 abbrev pub IsAccepted : Draft → Type 0
@@ -59,18 +61,18 @@ IsAccepted d = AcceptedBy (named_meaning d.order) d
 
 -- what came of judging the rows that are given goes with the routine
 abbrev pub JudgedOf : Option Meaning → Draft → Judged → Type 0
-JudgedOf o d judged.Unasked = list_any judges (before_fill d.steps) ≡ false
-JudgedOf o d judged.Orderless = (list_any judges (before_fill d.steps) ≡ true) × (accepted_under o d.words d.rows ≡ false)
-JudgedOf o d (judged.Refused f) = (list_any judges (before_fill d.steps) ≡ true) × (accepted_under o d.words d.rows ≡ false)
-JudgedOf o d judged.Accepted = (list_any judges (before_fill d.steps) ≡ true) × (accepted_under o d.words d.rows ≡ true)
+JudgedOf o d judged.Unasked = list_any judges (before_making d.steps) ≡ false
+JudgedOf o d judged.Orderless = (list_any judges (before_making d.steps) ≡ true) × (accepted_under o d.words d.rows.numbers ≡ false)
+JudgedOf o d (judged.Refused f) = (list_any judges (before_making d.steps) ≡ true) × (accepted_under o d.words d.rows.numbers ≡ false)
+JudgedOf o d judged.Accepted = (list_any judges (before_making d.steps) ≡ true) × (accepted_under o d.words d.rows.numbers ≡ true)
 
--- Whether each judgement that is asked for is acceptance, by what came of judging the given rows, whether a judgement of rows filled in
--- is asked for, and whether there are such: one at least has to be asked for.
+-- Whether each judgement that is asked for is acceptance, by what came of judging the given rows, whether a judgement of rows that are
+-- made is asked for, and whether there are such that are accepted: one at least has to be asked for.
 abbrev pub comes_out : Judged → Bool → Bool → Bool
-comes_out judged.Unasked asks_filled is_filled = asks_filled && is_filled
-comes_out judged.Orderless asks_filled is_filled = false
-comes_out (judged.Refused f) asks_filled is_filled = false
-comes_out judged.Accepted asks_filled is_filled = not asks_filled || is_filled
+comes_out judged.Unasked asks_made is_made = asks_made && is_made
+comes_out judged.Orderless asks_made is_made = false
+comes_out (judged.Refused f) asks_made is_made = false
+comes_out judged.Accepted asks_made is_made = not asks_made || is_made
 
 -- how a routine comes out tells whether it is accepted
 abbrev pub Tells : Type 0 → Standing → Type 0

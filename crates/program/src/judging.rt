@@ -11,9 +11,9 @@ ghost use Rattle.orders.specs.Making.{made_meaning};
 ghost use Rattle.routine.specs.Routines.{draft_of};
 ghost use Rattle.program.specs.Standings.{judges, JudgedOf};
 
-use crate::fillings::before_fill;
-use crate::working::Job;
-use explanations::{ColumnName, Refusal};
+use crate::makings::before_making;
+use crate::working::{Job, Sets};
+use explanations::{ColumnName, Refusal, RowLabel};
 use judge::faults::JudgeFault;
 use judge::judge;
 use levels::order::Order;
@@ -38,32 +38,31 @@ pub(crate) enum Judged {
 }
 
 impl Job<'_, '_> {
-    /// Judges the rows that are given, if a step asks for it before any that fills in.
+    /// Judges the rows that are given, if a step asks for it before any that makes rows.
     pub(crate) fn judge(self) -> Judged
         ensures { JudgedOf (option_map (λ o. made_meaning o.now) self.entry.order) (draft_of self.entry.routine.now) result }
     {
-        if !asks(before_fill(self.routine.steps.as_slice())) {
+        if !asks(before_making(self.routine.steps.as_slice())) {
             return Judged::Unasked;
         }
         let Some(order) = self.order else {
             return Judged::Orderless;
         };
         let words = self.routine.words.as_slice();
-        let rows = self.routine.rows.as_slice();
+        let rows = self.routine.rows.numbers.as_slice();
         match judge_by(words, rows, order) {
             Ok(()) => Judged::Accepted,
             Err(fault) => Judged::Refused(fault),
         }
     }
 
-    /// Prints what came of judging the routine.
+    /// Prints what came of judging the rows of the job.
     pub(crate) fn print_verdict(self, rt: &HostRuntime, judged: Judged) -> io::Result<()> {
         match judged {
             Judged::Accepted => println!(rt; "judge: accepted"),
             Judged::Refused(fault) => {
                 let words = self.routine.words.as_slice();
-                let rows = self.routine.rows.as_slice();
-                let routine = RoutineView::new(words, rows);
+                let routine = RoutineView::new(words, self.rows);
                 let refusal = Refusal { fault, routine };
                 println!(rt; "judge: {refusal}")?;
                 self.print_need(rt, &refusal)?;
@@ -96,23 +95,34 @@ impl Job<'_, '_> {
             println!(rt; "  line {line} has the word at {at}")?;
         }
         if let Some(row) = refusal.row() {
-            self.print_row_line(rt, refusal, row)?;
+            self.print_row_lines(rt, row)?;
         }
         if let Some(row) = refusal.next_row()
             && refusal.row() != Some(row)
         {
-            self.print_row_line(rt, refusal, row)?;
+            self.print_row_lines(rt, row)?;
         }
         Ok(())
     }
 
-    /// Prints on which line of the file a row stands.
-    fn print_row_line(self, rt: &HostRuntime, refusal: &Refusal<'_>, row: u32) -> io::Result<()> {
-        let label = refusal.label(row);
-        match self.routine.row_line(row) {
-            Some(line) => println!(rt; "  line {line} has {label}"),
-            None => println!(rt; "  no line has {label}, so what is given there is 0"),
+    /// Prints on which lines of the file a row stands, in the sets that the rows of the job are of.
+    pub(crate) fn print_row_lines(self, rt: &HostRuntime, row: u32) -> io::Result<()> {
+        let label = RowLabel::new(row, self.routine.words.len());
+        if matches!(self.sets, Sets::First | Sets::Both) {
+            match self.routine.row_line(row) {
+                Some(line) => println!(rt; "  line {line} has {label}")?,
+                None => println!(rt; "  no line has {label}, so what is given there is 0")?,
+            }
         }
+        if matches!(self.sets, Sets::Second | Sets::Both) {
+            match self.routine.second_row_line(row) {
+                Some(line) => println!(rt; "  line {line} has {label} of the second set")?,
+                None => println!(rt;
+                    "  no line has {label} of the second set, so what is given there is 0"
+                )?,
+            }
+        }
+        Ok(())
     }
 }
 
@@ -132,7 +142,7 @@ fn is_judge(step: Step) -> bool
 
 /// Judges words and rows by an order that was made.
 // The kind of the order is asked here once, and not for each level.
-fn judge_by(words: &[u16], rows: &[u16], order: &Made) -> Result<(), JudgeFault>
+pub(crate) fn judge_by(words: &[u16], rows: &[u16], order: &Made) -> Result<(), JudgeFault>
     ensures { says judge_refusal result ≡ judgement_of (made_meaning order.now) words.now rows.now }
 {
     match order {

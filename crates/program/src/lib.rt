@@ -7,12 +7,13 @@
 #![tactic(auto)]
 
 mod calls;
-mod fillings;
 mod hiding;
 mod joining;
 mod judging;
+mod makings;
 mod naming;
 mod options;
+mod reporting;
 mod rows;
 mod showing;
 mod standing;
@@ -31,7 +32,7 @@ use crate::options::{Word, check_asked, read_words};
 use crate::showing::{Cycles, Next};
 use crate::standing::Standing;
 use crate::tasks::{finish, load};
-use crate::working::Job;
+use crate::working::{Job, Sets};
 use notation::{Assembly, Foreign};
 use routine::Routine;
 use std::process::ExitCode;
@@ -43,7 +44,7 @@ use words::listing::Listing;
 /// What `--help` prints.
 const HELP: &str = "usage: dulkyamo [--check] [--] [FILE]..
 Carries out each routine FILE in turn, or standard input where none is named, and prints what it carried out.
-A FILE holds statements, one a line; `;` begins a comment. Words come first, then order and rows, then judge, fill, join and the calls:
+A FILE holds statements, one a line; `;` begins a comment. Words come first, then order and rows, then judge, fill, pool, remaining, join and the calls:
   words N N ..                   words of the routine
   order chain N | compartments N | table N B B .. | pair ORDER ORDER
                                  the order of secrecy levels
@@ -53,6 +54,9 @@ A FILE holds statements, one a line; `;` begins a comment. Words come first, the
   judge                          whether words and rows keep all rules
   fill                           fills in the least levels that are accepted, from the levels of row 0 and
                                  join, remaining and function of each row; prints the rows; judge goes by them then
+  second                         the rows behind it are a second set, of another analyst
+  pool                           pools both sets of rows; prints the rows; judge goes by them then
+  remaining                      the largest remaining number in the rows
   join CODE CODE                 the level that two levels join to, by their codes
   clear, put PLACE BYTE [BYTE], run LIMIT, read PLACE
                                  calls on two boards, whose answers stand side by side; PLACE is rN or an address
@@ -136,12 +140,13 @@ fn print_routine(rt: &HostRuntime, name: &str, routine: &Routine) -> io::Result<
     let job = Job {
         routine,
         order,
-        rows: routine.rows.as_slice(),
+        rows: routine.rows.numbers.as_slice(),
+        sets: Sets::First,
     };
     let judged = job.judge();
-    let filling = job.fill(rt.alloc())?;
-    job.work(rt, judged, &filling)?;
-    Ok(job.standing(judged, &filling))
+    let making = job.make(rt.alloc())?;
+    job.work(rt, judged, &making)?;
+    Ok(job.standing(judged, &making))
 }
 
 /// Prints the words as a listing, or why they are none.

@@ -1,7 +1,7 @@
 //! The steps of a routine, in order.
 use crate::calls::{Written, print_outcome};
-use crate::fillings::Filling;
 use crate::judging::Judged;
+use crate::makings::Making;
 use avr::location::Location;
 use couples::answers::{Answer, Answers};
 use couples::fault::LifeFault;
@@ -15,13 +15,25 @@ use std::io;
 /// How many bytes the memory of a board has.
 const MEMORY: usize = 65536;
 
-/// A routine whose steps are to be worked, the order that it is judged by, if one was made, and the rows that hold now: those that are
-/// given, or those that were filled in.
+/// Which of the sets of rows of a file some rows are of.
+#[derive(Clone, Copy)]
+pub(crate) enum Sets {
+    /// Of the first.
+    First,
+    /// Of the second.
+    Second,
+    /// Of both.
+    Both,
+}
+
+/// A routine whose steps are to be worked, the order that it is judged by, if one was made, the rows that hold now, which are those that
+/// are given or those that a step has made, and the sets that they are of.
 #[derive(Clone, Copy)]
 pub(crate) struct Job<'r, 'o> {
     pub routine: &'r Routine,
     pub order: Option<&'o Made>,
     pub rows: &'r [u16],
+    pub sets: Sets,
 }
 
 /// What two boards answered to the calls of a routine, one after another, or why there are none.
@@ -65,28 +77,29 @@ fn live_on_boards(
 }
 
 impl Job<'_, '_> {
-    /// Works the calls on a couple of boards, and prints what each step came to. To judge and to fill in need no boards, and change none.
-    pub(crate) fn work(
-        self,
-        rt: &HostRuntime,
-        judged: Judged,
-        filling: &Filling,
-    ) -> io::Result<()> {
+    /// Works the calls on a couple of boards, and prints what each step came to. Only the calls need boards.
+    pub(crate) fn work(self, rt: &HostRuntime, judged: Judged, making: &Making) -> io::Result<()> {
         let steps = self.routine.steps.as_slice();
         let calls = calls_of(rt.alloc(), steps)?;
         let life = live_through(rt.alloc(), self.routine.words.as_slice(), calls.as_slice())?;
         let mut job = self;
         let mut number = 0usize;
-        let mut is_filled = false;
+        let mut is_made = false;
         for step in steps {
             match *step {
-                Step::Judge if is_filled => filling.print_verdict(rt)?,
+                Step::Judge if is_made => job.print_made_verdict(rt, making)?,
                 Step::Judge => self.print_verdict(rt, judged)?,
                 Step::Fill => {
-                    self.print_filling(rt, filling)?;
-                    is_filled = true;
-                    job = self.with_filled(filling);
+                    self.print_filling(rt, making)?;
+                    is_made = true;
+                    job = self.with_made(making, Sets::First);
                 }
+                Step::Pool => {
+                    self.print_pooling(rt, making)?;
+                    is_made = true;
+                    job = self.with_made(making, Sets::Both);
+                }
+                Step::Remaining => job.print_remaining(rt)?,
                 Step::Join { first, second } => self.join(rt, first, second)?,
                 Step::Call(call) => {
                     job.print_answers(rt, call, &life, number)?;
