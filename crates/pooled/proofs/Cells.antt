@@ -24,7 +24,7 @@ module _ (m : Meaning) (xs ys : List ℕ) where
         let e : (a * columns + c) % columns ≡ c = omega arith in
         grind (arith, nat_tests, pool_at (a * columns + c) (rw whole (omega arith)), level_small c)
 
-    -- a level is the join of the two
+    -- a level is joined
     pub pool_level : (a c : ℕ) → c < 36 → cell n (pool_of m xs ys) a c ≡ m.join (cell n xs a c) (cell n ys a c)
     pool_level a c l = grind (arith, nat_tests, in_row a c, zero_join m laws)
 

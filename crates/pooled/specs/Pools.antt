@@ -19,7 +19,7 @@ pooled_at m xs ys i = cond (is_level i) (m.join (slice_index xs i) (slice_index 
 unfoldable pub pool_of : Meaning → List ℕ → List ℕ → List ℕ
 pool_of m xs ys = map (pooled_at m xs ys) (range_with_len 0 (length xs))
 
--- 3, then row by row 4 and 5: a set of rows for n words, on its own
+-- a set of rows for n words, on its own: its length is refused by 3, and a row by 4 or 5
 abbrev pub set_verdict : Meaning → ℕ → List ℕ → Verdict
 set_verdict m n rows = and_then (length_rule n rows) (row_rules m n rows)
 
@@ -47,7 +47,7 @@ module _ (m : Meaning) (n : ℕ) where
     pub same : SameGiven (rows_of n xs) (rows_of n ys)
     pub below : Below m (rows_of n xs) (rows_of n ys)
 
-  -- zs are xs and ys pooled, cell by cell: each level is the join of the two, and the given columns are the common ones
+  -- zs are xs and ys pooled, cell by cell: levels are joined, and the given columns are the common ones
   pub record CellsPooled (xs ys zs : List ℕ) : Type 0 where
     pub levels : (row column : ℕ) → is_among level_columns column ≡ true → cell n zs row column ≡ m.join (cell n xs row column) (cell n ys row column)
     pub first : (row column : ℕ) → is_among given_columns column ≡ true → cell n zs row column ≡ cell n xs row column

@@ -6,8 +6,8 @@
 
 ghost use Rattle.pooled.specs.Pooling.{PoolingStands};
 
-/// The pool of two accepted sets of rows is accepted, it is the least set that lies at or above both, and several sets are pooled to the
-/// same rows in every sequence and bracketing.
+/// The pool of two accepted sets of rows is accepted, it is the least set that lies at or above both, and neither
+/// the sequence nor the bracketing of several poolings matters.
 #[tactic(auto, using(crate::proofs::Stands::pooling))]
 pub fn pooling_stands()
     ensures { PoolingStands }
