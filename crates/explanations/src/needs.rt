@@ -18,7 +18,7 @@ pub struct Need {
 
 impl Refusal<'_> {
     /// A level that would be enough in the next row where a level does not flow on, by the order that the routine was judged by: what
-    /// the word leaves behind, joined with what the row says. It is the least at or above what the row says. None of other refusals.
+    /// the word leaves behind, joined with what the row says. It is the least at or above both. None of other refusals.
     pub fn need<O: Order>(&self, order: &O) -> Option<Need>
         ensures { result ≡ need_for (O.Order.meaning order.now) self.now.routine self.now.fault }
     {

@@ -44,17 +44,18 @@ use words::listing::Listing;
 /// What `--help` prints.
 const HELP: &str = "usage: dulkyamo [--check] [--] [FILE]..
 Carries out each routine FILE in turn, or standard input where none is named, and prints what it carried out.
-A FILE holds statements, one a line; `;` begins a comment. Words come first, then order and rows, then judge, fill, pool, remaining, join and the calls:
+A FILE holds statements, one a line; `;` begins a comment. Words come first, then order, rows and second,
+then judge, fill, pool, remaining, join and the calls:
   words N N ..                   words of the routine
   order chain N | compartments N | table N B B .. | pair ORDER ORDER
                                  the order of secrecy levels
   row ADDRESS NAME=VALUE ..      levels at a word, by name (r0 to r31, c, z, memory, region, join, remaining, function)
   row finish NAME=VALUE ..       levels at the end
   rows N N ..                    all rows as plain numbers, 39 to a row
+  second                         the rows behind it are a second set, of another analyst
   judge                          whether words and rows keep all rules
   fill                           fills in the least levels that are accepted, from the levels of row 0 and
                                  join, remaining and function of each row; prints the rows; judge goes by them then
-  second                         the rows behind it are a second set, of another analyst
   pool                           pools both sets of rows; prints the rows; judge goes by them then
   remaining                      the largest remaining number in the rows
   join CODE CODE                 the level that two levels join to, by their codes

@@ -3,7 +3,7 @@ ghost use Rattle.std.specs.Prelude.{◌≡◌, ◌≤◌, IfOk, length};
 ghost use Rattle.std.specs.Option.{option_map};
 ghost use Rattle.orders.specs.Making.{made_meaning};
 ghost use Rattle.routine.specs.Routines.{draft_of};
-ghost use Rattle.program.specs.Makings.{maker_of, first_maker, first_making, before_making, from_making, numbers_of, FillsTo, PoolsTo, MakingOf, is_made};
+ghost use Rattle.program.specs.Makings.{row_step_of, first_row_step, first_making, before_making, from_making, numbers_of, FillsTo, PoolsTo, MakingOf, is_made};
 ghost use Rattle.program.specs.Standings.{JudgedOf, AcceptedBy, Tells, comes_out};
 
 use crate::judging::{Judged, asks, judge_by};
@@ -22,7 +22,7 @@ use words::listing::Listing;
 
 /// How a step makes rows.
 #[derive(Clone, Copy)]
-pub(crate) enum Maker {
+pub(crate) enum RowStep {
     /// It fills levels in.
     Fill,
     /// It pools two sets of rows.
@@ -41,16 +41,16 @@ pub(crate) enum Making {
     /// Two sets are not pooled.
     Unpooled(PoolFault),
     /// The rows that were made, and what the judge says of them.
-    Made(Vec<u16>, Result<(), JudgeFault>),
+    Rows(Vec<u16>, Result<(), JudgeFault>),
 }
 
 /// How a step makes rows, if it does.
-fn maker_of(step: Step) -> Option<Maker>
-    ensures { result ≡ maker_of step }
+fn row_step_of(step: Step) -> Option<RowStep>
+    ensures { result ≡ row_step_of step }
 {
     match step {
-        Step::Fill => Some(Maker::Fill),
-        Step::Pool => Some(Maker::Pool),
+        Step::Fill => Some(RowStep::Fill),
+        Step::Pool => Some(RowStep::Pool),
         Step::Judge | Step::Remaining | Step::Join { .. } | Step::Call(_) => None,
     }
 }
@@ -61,7 +61,7 @@ fn first_making(steps: &[Step]) -> usize
     ensures within { result ≤ length steps.now }
 {
     for (at, step) in steps.iter().enumerate() {
-        if maker_of(*step).is_some() {
+        if row_step_of(*step).is_some() {
             return at;
         }
     }
@@ -83,12 +83,12 @@ fn from_making(steps: &[Step]) -> &[Step]
 }
 
 /// How the first step makes rows that makes any.
-fn first_maker(steps: &[Step]) -> Option<Maker>
-    ensures { result ≡ first_maker steps.now }
+fn first_row_step(steps: &[Step]) -> Option<RowStep>
+    ensures { result ≡ first_row_step steps.now }
 {
     for step in steps {
-        if let Some(maker) = maker_of(*step) {
-            return Some(maker);
+        if let Some(found) = row_step_of(*step) {
+            return Some(found);
         }
     }
     None
@@ -100,7 +100,7 @@ fn fill_by(heap: Global, words: &[u16], given: &[u16], order: &Made) -> Result<M
 {
     let mut rows = vec![in heap; 0u16; given.len()]?;
     match fill_in(words, given, order, rows.as_mut_slice()) {
-        Ok(()) => Ok(Making::Made(rows, Ok(()))),
+        Ok(()) => Ok(Making::Rows(rows, Ok(()))),
         Err(fault) => Ok(Making::Unfilled(fault)),
     }
 }
@@ -124,7 +124,7 @@ fn pool_by(
         return Ok(Making::Unpooled(fault));
     }
     let verdict = judge_by(words, rows.as_slice(), order);
-    Ok(Making::Made(rows, verdict))
+    Ok(Making::Rows(rows, verdict))
 }
 
 /// Whether each judgement that is asked for is acceptance: of the given rows by what came of that, and of rows that are made where there
@@ -144,7 +144,7 @@ impl Making {
     fn is_made(&self) -> bool
         ensures { result ≡ is_made self.now }
     {
-        matches!(self, Making::Made(_, Ok(())))
+        matches!(self, Making::Rows(_, Ok(())))
     }
 }
 
@@ -163,7 +163,7 @@ impl<'r, 'o> Job<'r, 'o> {
     pub(crate) fn make(self, heap: Global) -> Result<Making, AllocError>
         ensures { IfOk result (λ making. MakingOf (option_map (λ o. made_meaning o.now) self.entry.order) (draft_of self.entry.routine.now) making) }
     {
-        let Some(maker) = first_maker(self.routine.steps.as_slice()) else {
+        let Some(step) = first_row_step(self.routine.steps.as_slice()) else {
             return Ok(Making::Unasked);
         };
         let Some(order) = self.order else {
@@ -171,9 +171,9 @@ impl<'r, 'o> Job<'r, 'o> {
         };
         let words = self.routine.words.as_slice();
         let first = self.routine.rows.numbers.as_slice();
-        match maker {
-            Maker::Fill => fill_by(heap, words, first, order),
-            Maker::Pool => pool_by(heap, words, first, self.second(), order),
+        match step {
+            RowStep::Fill => fill_by(heap, words, first, order),
+            RowStep::Pool => pool_by(heap, words, first, self.second(), order),
         }
     }
 

@@ -1,5 +1,8 @@
 //! What the program prints of rows that are made, and of the largest remaining number.
-use crate::judging::Judged;
+ghost use Rattle.std.specs.Prelude.{◌≡◌};
+ghost use Rattle.program.specs.Makings.{current};
+
+use crate::judging::{Judged, judge_by};
 use crate::makings::Making;
 use crate::rows::NamedRows;
 use crate::working::{Job, Sets};
@@ -7,7 +10,6 @@ use explanations::{Refusal, RowLabel};
 use filling::fault::FillingFault;
 use filling::filling::{read, settle_levels};
 use judge::faults::{JudgeFault, RowFault};
-use judge::judge;
 use pooling::fault::{CountFault, PoolFault};
 use pooling::largest_remaining;
 use row_layout::{RoutineView, RowsView};
@@ -25,9 +27,11 @@ fn as_read(heap: Global, rows: &[u16]) -> Result<Vec<u16>, AllocError> {
 
 impl<'r, 'o> Job<'r, 'o> {
     /// The same with the rows that were made, if any were.
-    pub(crate) fn with_made(self, making: &'r Making, sets: Sets) -> Job<'r, 'o> {
+    pub(crate) fn with_made(self, making: &'r Making, sets: Sets) -> Job<'r, 'o>
+        ensures { result.rows.now ≡ current making.entry.now self.entry.rows.now }
+    {
         match making {
-            Making::Made(rows, _) => Job {
+            Making::Rows(rows, _) => Job {
                 rows: rows.as_slice(),
                 sets,
                 ..self
@@ -39,8 +43,8 @@ impl<'r, 'o> Job<'r, 'o> {
     /// Prints what comes of judging the rows that were made, which are those of the job.
     pub(crate) fn print_made_verdict(self, rt: &HostRuntime, making: &Making) -> io::Result<()> {
         match making {
-            Making::Made(_, Ok(())) => self.print_verdict(rt, Judged::Accepted),
-            Making::Made(_, Err(fault)) => self.print_verdict(rt, Judged::Refused(*fault)),
+            Making::Rows(_, Ok(())) => self.print_verdict(rt, Judged::Accepted),
+            Making::Rows(_, Err(fault)) => self.print_verdict(rt, Judged::Refused(*fault)),
             Making::Unfilled(_) => println!(rt;
                 "judge: no verdict, since no levels were filled in"
             ),
@@ -58,7 +62,7 @@ impl<'r, 'o> Job<'r, 'o> {
     /// Prints what came of filling in: the rows, as a routine file writes them, or why there are none.
     pub(crate) fn print_filling(self, rt: &HostRuntime, making: &Making) -> io::Result<()> {
         match making {
-            Making::Made(rows, _) => {
+            Making::Rows(rows, _) => {
                 println!(rt; "fill: filled in")?;
                 self.print_rows(rt, rows.as_slice())
             }
@@ -88,7 +92,7 @@ impl<'r, 'o> Job<'r, 'o> {
     fn print_unfillable(self, rt: &HostRuntime) -> io::Result<()> {
         let number = FillingFault::Unfillable.number();
         println!(rt;
-            "fill: refused {number}: no accepted rows have the given join, remaining and function and such a first row"
+            "fill: refused {number}: no accepted rows have the given join, remaining and function, and a first row at or above the given one"
         )?;
         let Some(order) = self.order else {
             return Ok(());
@@ -99,7 +103,7 @@ impl<'r, 'o> Job<'r, 'o> {
         if settle_levels(words, given, order, rows.as_mut_slice()).is_err() {
             return Ok(());
         }
-        let Err(fault) = judge(words, rows.as_slice(), order) else {
+        let Err(fault) = judge_by(words, rows.as_slice(), order) else {
             return Ok(());
         };
         let routine = RoutineView::new(words, rows.as_slice());
@@ -111,7 +115,7 @@ impl<'r, 'o> Job<'r, 'o> {
     /// Prints what came of pooling: the rows, as a routine file writes them, or why there are none.
     pub(crate) fn print_pooling(self, rt: &HostRuntime, making: &Making) -> io::Result<()> {
         match making {
-            Making::Made(rows, _) => {
+            Making::Rows(rows, _) => {
                 println!(rt; "pool: pooled")?;
                 self.print_rows(rt, rows.as_slice())
             }
@@ -171,6 +175,7 @@ impl<'r, 'o> Job<'r, 'o> {
         )?;
         self.print_given(rt, "first", self.routine.rows.numbers.as_slice(), row)?;
         self.print_given(rt, "second", self.second(), row)?;
+        println!(rt; "  change {label} in one of the sets, so that both say the same")?;
         let job = Job {
             sets: Sets::Both,
             ..self
