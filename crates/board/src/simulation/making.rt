@@ -3,6 +3,7 @@ ghost use Rattle.std.specs.Prelude.{◌≡◌, ℕ, ◌<◌, ◌≤◌, length, 
 ghost use Rattle.verdicts.specs.Verdict.{says, outcome, making};
 ghost use Rattle.machine.specs.Calls.{fresh, done, clear as clear_call, put as put_call, read as read_call};
 ghost use Rattle.avr.specs.Chip.{instruction_of, avr};
+ghost use Rattle.cells.specs.Cells.{cell_of};
 ghost use Rattle.board.specs.Steps.{Fetched};
 ghost use Rattle.board.specs.Faults.{making_of, making_refusal, unmade_refusal, put_answer, read_answer};
 ghost use Rattle.board.specs.Loans.{SameLoan};
@@ -21,19 +22,23 @@ use std::array;
 use words::instruction::Instruction;
 use words::listing::Listing;
 
-/// The instruction at an address of a listing; past its end it is a nop, as word 0 is.
-fn instruction_at(listing: &Listing<'_>, at: u16) -> Instruction
-    ensures { result ≡ instruction_of listing.now.words.now at }
+/// The cell of the word at an address, if the address is in the listing, and else the given one.
+fn cell_at(listing: &Listing<'_>, at: u16, past: Cell) -> Cell
+    ensures { at < length listing.now.words.now → result ≡ cell_of at (instruction_of listing.now.words.now at) }
 {
-    let word = listing.word(at).unwrap_or(0);
-    Instruction::decode(word).unwrap_or(Instruction::Nop)
+    match listing.instruction(at) {
+        Some(instruction) => Cell::new(at, instruction),
+        None => past,
+    }
 }
 
-/// The cells of a listing; those past its end are of nops.
+/// The cells of a listing; those past its end are of a nop.
 fn cells_of(listing: &Listing<'_>) -> [Cell; 1024]
     ensures { Fetched listing.now.words.now result }
 {
-    array::from_fn(|at| Cell::new(at as u16, instruction_at(listing, at as u16)))
+    // Worked out once, so that a short listing costs no decoding past its end.
+    let past = Cell::new(0, Instruction::Nop);
+    array::from_fn(|at| cell_at(listing, at as u16, past))
 }
 
 impl<'w, 'm> Board<'w, 'm> {

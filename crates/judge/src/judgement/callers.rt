@@ -1,7 +1,7 @@
 //! Callers: which functions the words call, and so where a return may lead.
 ghost use Rattle.std.specs.Prelude.{◌≡◌};
 ghost use Rattle.verdicts.specs.Verdict.{says};
-ghost use Rattle.avr.specs.Chip.{kind_of};
+ghost use Rattle.avr.specs.Chip.{instruction_of, kind_of};
 ghost use Rattle.row_layout.specs.Views.{chip};
 ghost use Rattle.judge.specs.Faults.{flow_refusal};
 ghost use Rattle.judge.specs.Verdicts.{return_verdict, callers_verdict, returns_verdict};
@@ -26,11 +26,22 @@ fn callee(at: u16, instruction: Instruction) -> Option<u32>
     }
 }
 
+/// The instruction at an address. Past the last word there are nops, for which nothing is decoded.
+fn decode_at(routine: &RoutineView, at: u16) -> Instruction
+    ensures { result ≡ instruction_of routine.now.words.now at }
+{
+    if usize::from(at) < routine.words.len() {
+        routine.instruction(at)
+    } else {
+        Instruction::Nop
+    }
+}
+
 /// The instruction at each address.
 pub(crate) fn decode(routine: &RoutineView) -> [Instruction; CAPACITY]
     ensures { Decoded routine.now result }
 {
-    array::from_fn(|at| routine.instruction(at as u16))
+    array::from_fn(|at| decode_at(routine, at as u16))
 }
 
 /// The function that each word calls.
