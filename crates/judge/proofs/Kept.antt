@@ -6,6 +6,7 @@ use Rattle.std.proofs.lemmas.List.{get_or-take, get_or-drop}
 use Rattle.verdicts.specs.Verdict.{fine, first_of}
 use Rattle.verdicts.proofs.Firsts.{and_fine, rule_met}
 use Rattle.levels.specs.Order.{Meaning, Laws}
+use Rattle.words.specs.declared.instruction.Instruction.{Instruction}
 use Rattle.avr.specs.Table.{Row, lookup, places_of, rows_of as table_of, origins_of, written_of}
 use Rattle.avr.specs.Chip.{instruction_of}
 use Rattle.secrecy.specs.Rows.{is_among, place_columns, level_columns, columns, cell, rows_of}
@@ -21,6 +22,10 @@ use Rattle.judge.specs.Verdicts.{rows_verdict, places_verdict, flows_along}
 among_rows : (rs : List Row) (p : ℕ) → is_some (lookup p rs) ≡ is_among (places_of rs) p
 among_rows [] p = grind (arith, among-nil p)
 among_rows (r ∷ rs) p = grind (arith, nat_tests, among-cons r.place (places_of rs) p, among_rows rs p)
+
+-- a place that is not among those that an instruction writes comes from nothing
+pub unwritten : (i : Instruction) (p : ℕ) → is_among (written_of i) p ≡ false → is_some (origins_of i p) ≡ false
+unwritten i p e = among_rows (table_of i) p ∙ e
 
 -- what holds of all numbers of a list holds of each that is among them
 among_all : (f : ℕ → Bool) (ks : List ℕ) (p : ℕ) → list_all f ks ≡ true → is_among ks p ≡ true → f p ≡ true

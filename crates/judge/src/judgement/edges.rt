@@ -3,13 +3,15 @@ ghost use Rattle.std.specs.Prelude.{◌≡◌, true};
 ghost use Rattle.verdicts.specs.Verdict.{says, fine};
 ghost use Rattle.std.specs.List.{list_all};
 ghost use Rattle.avr.specs.Table.{written_of};
+ghost use Rattle.secrecy.specs.Rows.{is_among};
+ghost use Rattle.row_layout.specs.Views.{rows_in};
 ghost use Rattle.judge.specs.Faults.{flow_refusal};
+ghost use Rattle.judge.specs.Views.{level_by};
 ghost use Rattle.judge.specs.Verdicts.{in_time, flows_along, places_verdict, region_verdict, edge_verdict};
 
 use crate::faults::FlowFault;
 use crate::judgement::Judgement;
 use crate::judgement::departure::Departure;
-use avr::table::written;
 use levels::order::Order;
 use row_layout::{REGION, place_columns};
 
@@ -24,12 +26,37 @@ impl<O: Order> Departure<'_, O> {
             || routine.rows.stays(self.at, next, cycles)
     }
 
+    /// Whether the word writes a place.
+    #[tactic(auto, unfolding(secrecy::specs::Rows::is_among))]
+    fn writes(&self, place: u16) -> bool
+        ensures { result ≡ is_among (written_of self.now.instruction) place }
+    {
+        self.written
+            .as_slice()
+            .iter()
+            .any(|written| *written == place)
+    }
+
+    /// The level of a place after the word.
+    // What the word leaves alone keeps its level. So the table of sources is asked only of what is written, on however many edges.
+    #[tactic(auto, using(crate::proofs::Kept::unwritten))]
+    fn level_after(&self, place: u16) -> u16
+        ensures { result ≡ level_by (O.Order.meaning self.now.judgement.now.order.now) (rows_in self.now.judgement.now.routine.rows) self.now.at self.now.instruction place }
+    {
+        let judgement = self.judgement;
+        if self.writes(place) {
+            judgement.level_after(self.at, self.instruction, place)
+        } else {
+            judgement.routine.rows.level(u32::from(self.at), place)
+        }
+    }
+
     /// Whether the level of a place after the word flows to its level in the next row.
     fn flows_at(&self, next: u32, place: u16) -> bool
         ensures { result ≡ flows_along (O.Order.meaning self.now.judgement.now.order.now) self.now.judgement.now.routine self.now.at next place }
     {
         let Judgement { routine, order, .. } = self.judgement;
-        let level = self.judgement.level_after(self.at, self.instruction, place);
+        let level = self.level_after(place);
         order.flows(level, routine.rows.level(next, place))
     }
 
@@ -37,8 +64,7 @@ impl<O: Order> Departure<'_, O> {
     fn written_flow(&self, next: u32) -> bool
         ensures { result ≡ list_all (flows_along (O.Order.meaning self.now.judgement.now.order.now) self.now.judgement.now.routine self.now.at next) (written_of self.now.instruction) }
     {
-        let places = written(self.instruction);
-        places
+        self.written
             .as_slice()
             .iter()
             .all(|place| self.flows_at(next, *place))

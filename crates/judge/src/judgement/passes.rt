@@ -8,6 +8,7 @@ ghost use Rattle.judge.specs.Verdicts.{rows_verdict, addresses_verdict, word_ver
 use crate::faults::{FlowFault, RowFault};
 use crate::judgement::Judgement;
 use crate::judgement::departure::Departure;
+use avr::table::written;
 use levels::order::Order;
 use words::instruction::Instruction;
 use words::route::Route;
@@ -46,6 +47,7 @@ impl<O: Order> Judgement<'_, O> {
             judgement: self,
             at,
             instruction,
+            written: written(instruction),
             pc_level: self.order.join(
                 self.routine.rows.region(u32::from(at)),
                 self.deciding(at, instruction),
