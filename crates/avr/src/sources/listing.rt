@@ -44,10 +44,12 @@ pub(crate) fn listed(first: &[u16], last: Option<u8>) -> Sources
     requires { length first.now < 4 }
     ensures { list_of result ≡ first.now ++ option_to_list last }
 {
-    let mut sources = Sources::none();
-    for place in first {
-        sources = sources.and(*place);
-    }
+    let mut places = [0; 4];
+    places[..first.len()].copy_from_slice(first);
+    let sources = Sources {
+        places,
+        count: first.len(),
+    };
     match last {
         Some(register) => sources.and(u16::from(register)),
         None => sources,
