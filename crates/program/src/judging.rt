@@ -37,6 +37,30 @@ pub(crate) enum Judged {
     Accepted,
 }
 
+/// The line of a file on which a word stands.
+#[derive(Clone, Copy)]
+struct WordLine {
+    at: u16,
+    line: usize,
+}
+
+/// The lines of a file on which a row stands last, in the first set of rows and in the second; none where no line is about it.
+#[derive(Clone, Copy)]
+struct RowLines {
+    row: u32,
+    first: Option<usize>,
+    second: Option<usize>,
+}
+
+/// The lines that a verdict is about: of a word, of a row, and of the row of the next word.
+// To look them up takes the longer the more lines the file has. So a verdict that is printed often has them looked up once.
+#[derive(Clone, Copy, Default)]
+pub(crate) struct Lines {
+    word: Option<WordLine>,
+    row: Option<RowLines>,
+    next: Option<RowLines>,
+}
+
 impl Job<'_, '_> {
     /// Judges the rows that are given, if a step asks for it before any that makes rows.
     pub(crate) fn judge(self) -> Judged
@@ -56,17 +80,20 @@ impl Job<'_, '_> {
         }
     }
 
-    /// Prints what came of judging the rows of the job.
-    pub(crate) fn print_verdict(self, rt: &HostRuntime, judged: Judged) -> io::Result<()> {
+    /// Prints what came of judging the rows of the job, which is about what stands on these lines.
+    pub(crate) fn print_verdict(
+        self,
+        rt: &HostRuntime,
+        judged: Judged,
+        lines: Lines,
+    ) -> io::Result<()> {
         match judged {
             Judged::Accepted => println!(rt; "judge: accepted"),
             Judged::Refused(fault) => {
-                let words = self.routine.words.as_slice();
-                let routine = RoutineView::new(words, self.rows);
-                let refusal = Refusal { fault, routine };
+                let refusal = self.refusal(fault);
                 println!(rt; "judge: {refusal}")?;
                 self.print_need(rt, &refusal)?;
-                self.print_lines(rt, &refusal)
+                self.print_found(rt, lines)
             }
             Judged::Unasked | Judged::Orderless => println!(rt;
                 "judge: no verdict, since the order is refused"
@@ -75,7 +102,13 @@ impl Job<'_, '_> {
     }
 }
 
-impl Job<'_, '_> {
+impl<'r> Job<'r, '_> {
+    /// A refusal of the rows of the job.
+    fn refusal(self, fault: JudgeFault) -> Refusal<'r> {
+        let routine = RoutineView::new(self.routine.words.as_slice(), self.rows);
+        Refusal { fault, routine }
+    }
+
     /// Prints a level that would do where a level does not flow on.
     fn print_need(self, rt: &HostRuntime, refusal: &Refusal<'_>) -> io::Result<()> {
         let Some(need) = self.order.and_then(|order| refusal.need(order)) else {
@@ -87,35 +120,75 @@ impl Job<'_, '_> {
         println!(rt; "  {column}={level} in {label} is enough for this way")
     }
 
+    /// On which lines of the file the word and the rows stand that a verdict on the rows of the job is about.
+    pub(crate) fn lines_of(self, judged: Judged) -> Lines {
+        match judged {
+            Judged::Refused(fault) => self.lines_about(&self.refusal(fault)),
+            Judged::Accepted | Judged::Unasked | Judged::Orderless => Lines::default(),
+        }
+    }
+
+    /// On which lines of the file the word and the rows stand that a refusal is about.
+    fn lines_about(self, refusal: &Refusal<'_>) -> Lines {
+        let row = refusal.row();
+        let next = refusal.next_row().filter(|next| row != Some(*next));
+        Lines {
+            word: refusal.word().and_then(|at| self.word_line(at)),
+            row: row.map(|row| self.row_lines(row)),
+            next: next.map(|row| self.row_lines(row)),
+        }
+    }
+
+    /// On which line of the file a word stands, if it does.
+    fn word_line(self, at: u16) -> Option<WordLine> {
+        let line = self.routine.word_line(at)?;
+        Some(WordLine { at, line })
+    }
+
+    /// On which lines of the file a row stands.
+    fn row_lines(self, row: u32) -> RowLines {
+        RowLines {
+            row,
+            first: self.routine.row_line(row),
+            second: self.routine.second_row_line(row),
+        }
+    }
+
     /// Prints on which lines of the file the word and the rows stand that a refusal is about.
     pub(crate) fn print_lines(self, rt: &HostRuntime, refusal: &Refusal<'_>) -> io::Result<()> {
-        if let Some(at) = refusal.word()
-            && let Some(line) = self.routine.word_line(at)
-        {
+        self.print_found(rt, self.lines_about(refusal))
+    }
+
+    /// Prints lines that were looked up.
+    fn print_found(self, rt: &HostRuntime, lines: Lines) -> io::Result<()> {
+        if let Some(WordLine { at, line }) = lines.word {
             println!(rt; "  line {line} has the word at {at}")?;
         }
-        if let Some(row) = refusal.row() {
-            self.print_row_lines(rt, row)?;
+        if let Some(row) = lines.row {
+            self.print_found_row(rt, row)?;
         }
-        if let Some(row) = refusal.next_row()
-            && refusal.row() != Some(row)
-        {
-            self.print_row_lines(rt, row)?;
+        if let Some(row) = lines.next {
+            self.print_found_row(rt, row)?;
         }
         Ok(())
     }
 
     /// Prints on which lines of the file a row stands, in the sets that the rows of the job are of.
     pub(crate) fn print_row_lines(self, rt: &HostRuntime, row: u32) -> io::Result<()> {
-        let label = RowLabel::new(row, self.routine.words.len());
+        self.print_found_row(rt, self.row_lines(row))
+    }
+
+    /// Prints lines of a row that were looked up, in the sets that the rows of the job are of.
+    fn print_found_row(self, rt: &HostRuntime, lines: RowLines) -> io::Result<()> {
+        let label = RowLabel::new(lines.row, self.routine.words.len());
         if matches!(self.sets, Sets::First | Sets::Both) {
-            match self.routine.row_line(row) {
+            match lines.first {
                 Some(line) => println!(rt; "  line {line} has {label}")?,
                 None => println!(rt; "  no line has {label}, so what is given there is 0")?,
             }
         }
         if matches!(self.sets, Sets::Second | Sets::Both) {
-            match self.routine.second_row_line(row) {
+            match lines.second {
                 Some(line) => println!(rt; "  line {line} has {label} of the second set")?,
                 None => println!(rt;
                     "  no line has {label} of the second set, so what is given there is 0"

@@ -44,6 +44,18 @@ pub(crate) enum Making {
     Rows(Vec<u16>, Result<(), JudgeFault>),
 }
 
+impl Making {
+    /// What the judge says of the rows that were made; nothing is asked of it where there are none.
+    pub(crate) fn judged(&self) -> Judged {
+        match self {
+            Making::Rows(_, Ok(())) => Judged::Accepted,
+            Making::Rows(_, Err(fault)) => Judged::Refused(*fault),
+            Making::Orderless => Judged::Orderless,
+            Making::Unasked | Making::Unfilled(_) | Making::Unpooled(_) => Judged::Unasked,
+        }
+    }
+}
+
 /// How a step makes rows, if it does.
 fn row_step_of(step: Step) -> Option<RowStep>
     ensures { result ≡ row_step_of step }

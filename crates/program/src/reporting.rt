@@ -2,7 +2,7 @@
 ghost use Rattle.std.specs.Prelude.{◌≡◌};
 ghost use Rattle.program.specs.Makings.{current};
 
-use crate::judging::{Judged, judge_by};
+use crate::judging::{Lines, judge_by};
 use crate::makings::Making;
 use crate::rows::NamedRows;
 use crate::working::{Job, Sets};
@@ -40,16 +40,21 @@ impl<'r, 'o> Job<'r, 'o> {
         }
     }
 
-    /// Prints what comes of judging the rows that were made, which are those of the job.
-    pub(crate) fn print_made_verdict(self, rt: &HostRuntime, making: &Making) -> io::Result<()> {
+    /// Prints what comes of judging the rows that were made, which are those of the job; it is about what stands on these lines.
+    pub(crate) fn print_made_verdict(
+        self,
+        rt: &HostRuntime,
+        making: &Making,
+        lines: Lines,
+    ) -> io::Result<()> {
         match making {
-            Making::Rows(_, Ok(())) => self.print_verdict(rt, Judged::Accepted),
-            Making::Rows(_, Err(fault)) => self.print_verdict(rt, Judged::Refused(*fault)),
             Making::Unfilled(_) => println!(rt;
                 "judge: no verdict, since no levels were filled in"
             ),
             Making::Unpooled(_) => println!(rt; "judge: no verdict, since nothing was pooled"),
-            Making::Unasked | Making::Orderless => self.print_verdict(rt, Judged::Orderless),
+            Making::Rows(_, _) | Making::Unasked | Making::Orderless => {
+                self.print_verdict(rt, making.judged(), lines)
+            }
         }
     }
 

@@ -1,6 +1,6 @@
 //! The steps of a routine, in order.
 use crate::calls::{Written, print_outcome};
-use crate::judging::Judged;
+use crate::judging::{Judged, Lines};
 use crate::makings::Making;
 use avr::location::Location;
 use couples::answers::{Answer, Answers};
@@ -82,22 +82,30 @@ impl Job<'_, '_> {
         let steps = self.routine.steps.as_slice();
         let calls = calls_of(rt.alloc(), steps)?;
         let life = live_through(rt.alloc(), self.routine.words.as_slice(), calls.as_slice())?;
+        let given = self.lines_of(judged);
         let mut job = self;
+        let mut made = Lines::default();
         let mut number = 0usize;
         let mut is_made = false;
         for step in steps {
             match *step {
-                Step::Judge if is_made => job.print_made_verdict(rt, making)?,
-                Step::Judge => self.print_verdict(rt, judged)?,
+                Step::Judge if is_made => job.print_made_verdict(rt, making, made)?,
+                Step::Judge => self.print_verdict(rt, judged, given)?,
                 Step::Fill => {
                     self.print_filling(rt, making)?;
+                    if !is_made {
+                        job = self.with_made(making, Sets::First);
+                        made = job.lines_of(making.judged());
+                    }
                     is_made = true;
-                    job = self.with_made(making, Sets::First);
                 }
                 Step::Pool => {
                     self.print_pooling(rt, making)?;
+                    if !is_made {
+                        job = self.with_made(making, Sets::Both);
+                        made = job.lines_of(making.judged());
+                    }
                     is_made = true;
-                    job = self.with_made(making, Sets::Both);
                 }
                 Step::Remaining => job.print_remaining(rt)?,
                 Step::Join { first, second } => self.join(rt, first, second)?,
