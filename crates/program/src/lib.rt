@@ -31,7 +31,7 @@ use crate::naming::print_order;
 use crate::options::{Word, check_asked, read_words};
 use crate::showing::{Cycles, Next};
 use crate::standing::Standing;
-use crate::tasks::{finish, load};
+use crate::tasks::{finish, give_up, load};
 use crate::working::{Job, Sets};
 use notation::{Assembly, Foreign};
 use routine::Routine;
@@ -101,8 +101,10 @@ fn try_run(rt: &HostRuntime) -> io::Result<ExitCode>
         print_unknown(rt, texts.as_slice(), words.as_slice())?;
         return Ok(ExitCode::from(MISUSED));
     };
-    let tasks = load(rt, texts, words.as_slice())?;
-    Ok(finish(rt, check, tasks.as_slice()))
+    match load(rt, texts, words.as_slice()) {
+        Ok(tasks) => Ok(finish(rt, check, tasks.as_slice())),
+        Err(error) => Ok(give_up(rt, check, error)),
+    }
 }
 
 /// Says which words are options that there are none of.

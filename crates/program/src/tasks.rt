@@ -2,7 +2,8 @@
 ghost use Rattle.std.specs.Prelude.{◌≡◌, ◌≤◌, ℕ, IfOk, true};
 ghost use Rattle.std.specs.List.{list_all};
 ghost use Rattle.std.specs.Process.{exit_status};
-ghost use Rattle.program.specs.Standings.{TaskStands, TasksStand, task_read, AllAccepted};
+ghost use Rattle.program.specs.Standings.{TaskStands, TasksStand, task_read, AllAccepted, status_by};
+ghost use Rattle.program.specs.declared.standing.Standing.TheVariants.{Unread};
 
 use crate::options::Word;
 use crate::standing::Standing;
@@ -48,7 +49,7 @@ pub(crate) fn load(rt: &HostRuntime, texts: Vec<String>, words: &[Word]) -> io::
 fn load_file(rt: &HostRuntime, name: String) -> io::Result<Task> {
     match fs::read(rt, name.as_str()) {
         Ok(bytes) => Ok(Task::File { name, bytes }),
-        Err(error) => unreadable(rt, name.as_str(), error),
+        Err(error) => Ok(unreadable(rt, name.as_str(), error)),
     }
 }
 
@@ -60,14 +61,14 @@ fn load_input(rt: &HostRuntime) -> io::Result<Task> {
             let name = String::from_str(rt.alloc(), INPUT)?;
             Ok(Task::File { name, bytes })
         }
-        Err(error) => unreadable(rt, INPUT, error),
+        Err(error) => Ok(unreadable(rt, INPUT, error)),
     }
 }
 
-/// Says that a file cannot be read.
-fn unreadable(rt: &HostRuntime, name: &str, error: io::Error) -> io::Result<Task> {
-    eprintln!(rt; "{name}: cannot be read: {error}")?;
-    Ok(Task::Unreadable)
+/// Says that a file cannot be read. Where that cannot be said either, the exit status still tells it.
+fn unreadable(rt: &HostRuntime, name: &str, error: io::Error) -> Task {
+    let _ = eprintln!(rt; "{name}: cannot be read: {error}");
+    Task::Unreadable
 }
 
 impl Task {
@@ -110,9 +111,14 @@ pub(crate) fn finish(rt: &HostRuntime, check: bool, tasks: &[Task]) -> ExitCode
 {
     match carry_out_all(rt, tasks) {
         Ok(worst) => ExitCode::from(worst.status(check)),
-        Err(error) => {
-            let _ = eprintln!(rt; "dulkyamo: {error}");
-            ExitCode::from(Standing::Unread.status(check))
-        }
+        Err(error) => give_up(rt, check, error),
     }
+}
+
+/// Says what kept tasks from being loaded or carried out, and answers the exit status of that.
+pub(crate) fn give_up(rt: &HostRuntime, check: bool, error: io::Error) -> ExitCode
+    ensures { exit_status result ≡ status_by check Unread }
+{
+    let _ = eprintln!(rt; "dulkyamo: {error}");
+    ExitCode::from(Standing::Unread.status(check))
 }
