@@ -13,7 +13,7 @@ use crate::faults::FlowFault;
 use crate::judgement::Judgement;
 use crate::judgement::departure::Departure;
 use levels::order::Order;
-use row_layout::{REGION, place_columns};
+use row_layout::{PLACES, REGION, place_columns};
 
 impl<O: Order> Departure<'_, O> {
     /// Whether an edge, if it comes from inside a region, ends the region in time or stays in it.
@@ -43,6 +43,11 @@ impl<O: Order> Departure<'_, O> {
     fn level_after(&self, place: u16) -> u16
         ensures { result ≡ level_by (O.Order.meaning self.now.judgement.now.order.now) (rows_in self.now.judgement.now.routine.rows) self.now.at self.now.instruction place }
     {
+        if let Some(levels) = &self.levels
+            && usize::from(place) < PLACES
+        {
+            return levels[usize::from(place)];
+        }
         let judgement = self.judgement;
         if self.writes(place) {
             judgement.level_after(self.at, self.instruction, place)
