@@ -32,6 +32,6 @@ pub record Departs (m : Meaning) (routine : RoutineView) (at : ℕ) (instruction
   pub is : instruction ≡ instruction_of routine.words.now at
   pub pc_level : known ≡ flow.pc_level m (chip routine) (rows_in routine.rows) at
 
--- a list has the level of each place after an instruction at an address
+-- a list has the level of each of the 35 places after an instruction at an address
 abbrev pub Leaves : Meaning → RoutineView → ℕ → Instruction → List ℕ → Type 0
 Leaves m routine at instruction after = (p : ℕ) → p < 35 → slice_index_or after p 0 ≡ level_by m (rows_in routine.rows) at instruction p
