@@ -3,3 +3,4 @@ pub mod Joins
 pub mod Kept
 pub mod Placed
 pub mod Refused
+pub mod Ranged

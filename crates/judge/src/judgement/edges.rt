@@ -1,12 +1,14 @@
 //! Edges: their time, and the levels that flow along them.
 ghost use Rattle.std.specs.Prelude.{◌≡◌, true};
-ghost use Rattle.verdicts.specs.Verdict.{says, fine};
+ghost use Rattle.verdicts.specs.Verdict.{says, fine, first};
 ghost use Rattle.std.specs.List.{list_all};
 ghost use Rattle.avr.specs.Table.{written_of};
 ghost use Rattle.secrecy.specs.Rows.{is_among};
-ghost use Rattle.row_layout.specs.Views.{rows_in};
+ghost use Rattle.secrecy.specs.Rules.{flow_rule};
+ghost use Rattle.row_layout.specs.Views.{rows_in, chip};
 ghost use Rattle.judge.specs.Faults.{flow_refusal};
 ghost use Rattle.judge.specs.Views.{level_by};
+ghost use Rattle.judge.specs.Worked.{Leaves};
 ghost use Rattle.judge.specs.Verdicts.{in_time, flows_along, places_verdict, region_verdict, edge_verdict};
 
 use crate::faults::FlowFault;
@@ -38,16 +40,11 @@ impl<O: Order> Departure<'_, O> {
     }
 
     /// The level of a place after the word.
-    // What the word leaves alone keeps its level. So the table of sources is asked only of what is written, on however many edges.
+    // What the word leaves alone keeps its level. So the table of sources is asked only of what is written.
     #[tactic(auto, using(crate::proofs::Kept::unwritten))]
     fn level_after(&self, place: u16) -> u16
         ensures { result ≡ level_by (O.Order.meaning self.now.judgement.now.order.now) (rows_in self.now.judgement.now.routine.rows) self.now.at self.now.instruction place }
     {
-        if let Some(levels) = &self.levels
-            && usize::from(place) < PLACES
-        {
-            return levels[usize::from(place)];
-        }
         let judgement = self.judgement;
         if self.writes(place) {
             judgement.level_after(self.at, self.instruction, place)
@@ -83,13 +80,47 @@ impl<O: Order> Departure<'_, O> {
         self.judgement.same_codes(u32::from(self.at), next) && self.written_flow(next)
     }
 
+    /// Whether the level that a place has after the word flows to its level in the next row.
+    #[inline(always)]
+    fn check_place(&self, next: u32, place: u16, level: u16) -> Result<(), FlowFault>
+        requires { level ≡ level_by (O.Order.meaning self.now.judgement.now.order.now) (rows_in self.now.judgement.now.routine.rows) self.now.at self.now.instruction place }
+        ensures { says flow_refusal result ≡ flow_rule (O.Order.meaning self.now.judgement.now.order.now) (chip self.now.judgement.now.routine) (rows_in self.now.judgement.now.routine.rows) self.now.at next place }
+    {
+        let Judgement { routine, order, .. } = self.judgement;
+        if order.flows(level, routine.rows.level(next, place)) {
+            Ok(())
+        } else {
+            Err(FlowFault::Level {
+                at: self.at,
+                next,
+                place,
+            })
+        }
+    }
+
+    /// Whether the levels that all places have after the word flow to their levels in the next row.
+    // By numbers in turn: a return may have hundreds of edges, and asks this on each.
+    #[tactic(auto, using(verdicts::proofs::Firsts::first_none, verdicts::proofs::Firsts::first_more))]
+    fn check_known(&self, next: u32, levels: &[u16; PLACES]) -> Result<(), FlowFault>
+        requires { Leaves (O.Order.meaning self.now.judgement.now.order.now) self.now.judgement.now.routine self.now.at self.now.instruction levels.now }
+        ensures { says flow_refusal result ≡ first (flow_rule (O.Order.meaning self.now.judgement.now.order.now) (chip self.now.judgement.now.routine) (rows_in self.now.judgement.now.routine.rows) self.now.at next) 35 }
+    {
+        for place in 0..PLACES as u16 {
+            self.check_place(next, place, levels[usize::from(place)])?;
+        }
+        Ok(())
+    }
+
     /// Whether the level of each place after a word flows to its level in the next row.
-    #[tactic(auto, unfolding(verdicts::specs::Verdict::first_of))]
+    #[tactic(auto, using(crate::proofs::Ranged::in_turn), unfolding(verdicts::specs::Verdict::first_of))]
     fn check_levels(&self, next: u32) -> Result<(), FlowFault>
         ensures { says flow_refusal result ≡ places_verdict (O.Order.meaning self.now.judgement.now.order.now) self.now.judgement.now.routine self.now.at next }
     {
         if self.keeps_levels(next) {
             return Ok(());
+        }
+        if let Some(levels) = &self.levels {
+            return self.check_known(next, levels);
         }
         for place in place_columns() {
             if !self.flows_at(next, *place) {
