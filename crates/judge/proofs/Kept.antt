@@ -46,6 +46,10 @@ code_of rows start column l = get_or-take 36 (drop start rows) column 0 l ∙ ge
 cell_of : (n : ℕ) (rows : List ℕ) (row column : ℕ) → row ≤ n → cell n rows row column ≡ get_or rows (row * columns + column) 0
 cell_of n rows row column l = grind (arith, nat_tests)
 
+-- the level of a place in a row is its code
+pub level_in : (n : ℕ) (rows : List ℕ) (row place : ℕ) → row ≤ n → place < 35 → get_or (take 36 (drop (row * columns) rows)) place 0 ≡ (rows_of n rows).level row place
+level_in n rows row place l few = grind (arith, nat_tests, place_number place, code_of rows (row * columns) place, cell_of n rows row place)
+
 -- rows whose first numbers are the same
 pub same_by : (n : ℕ) (rows : List ℕ) (a b : ℕ) → a ≤ n → b ≤ n → take 36 (drop (a * columns) rows) ≡ take 36 (drop (b * columns) rows) →
     (column : ℕ) → is_among level_columns column ≡ true → cell n rows a column ≡ cell n rows b column

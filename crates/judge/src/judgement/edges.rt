@@ -1,5 +1,5 @@
 //! Edges: their time, and the levels that flow along them.
-ghost use Rattle.std.specs.Prelude.{◌≡◌, true};
+ghost use Rattle.std.specs.Prelude.{◌≡◌, ◌≤◌, true, length};
 ghost use Rattle.verdicts.specs.Verdict.{says, fine, first};
 ghost use Rattle.std.specs.List.{list_all};
 ghost use Rattle.avr.specs.Table.{written_of};
@@ -80,14 +80,14 @@ impl<O: Order> Departure<'_, O> {
         self.judgement.same_codes(u32::from(self.at), next) && self.written_flow(next)
     }
 
-    /// Whether the level that a place has after the word flows to its level in the next row.
+    /// Whether the level that a place has after the word flows to its code in the next row.
     #[inline(always)]
-    fn check_place(&self, next: u32, place: u16, level: u16) -> Result<(), FlowFault>
-        requires { level ≡ level_by (O.Order.meaning self.now.judgement.now.order.now) (rows_in self.now.judgement.now.routine.rows) self.now.at self.now.instruction place }
+    fn check_place(&self, next: u32, place: u16, level: u16, code: u16) -> Result<(), FlowFault>
+        requires level { level ≡ level_by (O.Order.meaning self.now.judgement.now.order.now) (rows_in self.now.judgement.now.routine.rows) self.now.at self.now.instruction place }
+        requires code { code ≡ (rows_in self.now.judgement.now.routine.rows).level next place }
         ensures { says flow_refusal result ≡ flow_rule (O.Order.meaning self.now.judgement.now.order.now) (chip self.now.judgement.now.routine) (rows_in self.now.judgement.now.routine.rows) self.now.at next place }
     {
-        let Judgement { routine, order, .. } = self.judgement;
-        if order.flows(level, routine.rows.level(next, place)) {
+        if self.judgement.order.flows(level, code) {
             Ok(())
         } else {
             Err(FlowFault::Level {
@@ -98,30 +98,27 @@ impl<O: Order> Departure<'_, O> {
         }
     }
 
-    /// Whether the levels that all places have after the word flow to their levels in the next row.
-    // By numbers in turn: a return may have hundreds of edges, and asks this on each.
-    #[tactic(auto, using(verdicts::proofs::Firsts::first_none, verdicts::proofs::Firsts::first_more))]
+    /// Whether the levels that all places have after the word flow to their codes in the next row.
+    // By numbers in turn, and from the row's codes alone: a return may have hundreds of edges, and asks this on each.
+    #[tactic(auto, using(verdicts::proofs::Firsts::first_none, verdicts::proofs::Firsts::first_more, crate::proofs::Kept::level_in))]
     fn check_known(&self, next: u32, levels: &[u16; PLACES]) -> Result<(), FlowFault>
-        requires { Leaves (O.Order.meaning self.now.judgement.now.order.now) self.now.judgement.now.routine self.now.at self.now.instruction levels.now }
+        requires row { next ≤ length self.now.judgement.now.routine.words.now }
+        requires leaves { Leaves (O.Order.meaning self.now.judgement.now.order.now) self.now.judgement.now.routine self.now.at self.now.instruction levels.now }
         ensures { says flow_refusal result ≡ first (flow_rule (O.Order.meaning self.now.judgement.now.order.now) (chip self.now.judgement.now.routine) (rows_in self.now.judgement.now.routine.rows) self.now.at next) 35 }
     {
+        let codes = self.judgement.codes(next);
         for place in 0..PLACES as u16 {
-            self.check_place(next, place, levels[usize::from(place)])?;
+            let index = usize::from(place);
+            self.check_place(next, place, levels[index], codes[index])?;
         }
         Ok(())
     }
 
-    /// Whether the level of each place after a word flows to its level in the next row.
-    #[tactic(auto, using(crate::proofs::Ranged::in_turn), unfolding(verdicts::specs::Verdict::first_of))]
-    fn check_levels(&self, next: u32) -> Result<(), FlowFault>
+    /// Whether the level of each place after the word flows to its level in the next row, each worked out in its turn.
+    #[tactic(auto, unfolding(verdicts::specs::Verdict::first_of))]
+    fn check_each(&self, next: u32) -> Result<(), FlowFault>
         ensures { says flow_refusal result ≡ places_verdict (O.Order.meaning self.now.judgement.now.order.now) self.now.judgement.now.routine self.now.at next }
     {
-        if self.keeps_levels(next) {
-            return Ok(());
-        }
-        if let Some(levels) = &self.levels {
-            return self.check_known(next, levels);
-        }
         for place in place_columns() {
             if !self.flows_at(next, *place) {
                 return Err(FlowFault::Level {
@@ -132,6 +129,21 @@ impl<O: Order> Departure<'_, O> {
             }
         }
         Ok(())
+    }
+
+    /// Whether the level of each place after the word flows to its level in the next row.
+    #[tactic(auto, using(crate::proofs::Ranged::in_turn))]
+    fn check_levels(&self, next: u32) -> Result<(), FlowFault>
+        ensures { says flow_refusal result ≡ places_verdict (O.Order.meaning self.now.judgement.now.order.now) self.now.judgement.now.routine self.now.at next }
+    {
+        if self.keeps_levels(next) {
+            return Ok(());
+        }
+        let last = u32::from(self.judgement.len());
+        match &self.levels {
+            Some(levels) if next <= last => self.check_known(next, levels),
+            _ => self.check_each(next),
+        }
     }
 
     /// Whether, on an edge from inside a region to inside one, the pc_level flows to the region level of the next row.

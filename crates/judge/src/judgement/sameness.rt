@@ -7,9 +7,10 @@ use row_layout::{COLUMNS, LEVELS};
 
 impl<O> Judgement<'_, O> {
     /// The codes of a row. They are its first numbers, so that two rows are compared at once.
-    fn codes(&self, row: u32) -> &[u16]
+    pub(crate) fn codes(&self, row: u32) -> &[u16]
         requires { row ≤ length self.now.routine.words.now }
-        ensures { result.now ≡ take 36 (drop (row * columns) self.now.routine.rows.rows.now) }
+        ensures codes { result.now ≡ take 36 (drop (row * columns) self.now.routine.rows.rows.now) }
+        ensures count { length result.now ≡ 36 }
     {
         let start = row as usize * COLUMNS;
         &self.routine.rows.rows[start..start + LEVELS]

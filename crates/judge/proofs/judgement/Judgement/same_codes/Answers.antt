@@ -10,4 +10,4 @@ returns g c h =
     let rows = c.args.self.now.routine.rows in
     let values = c.len.ensures in
     let last = c.from-last.ensures in
-    same_by rows.words rows.rows.now c.args.a c.args.b (omega (arith, c.if-a-last.false, c.len.ensures.rows)) (omega (arith, c.if-b-last.false, c.len.ensures.rows)) (sym c.codes.ensures ∙ (same ∙ c.codes-2.ensures))
+    same_by rows.words rows.rows.now c.args.a c.args.b (omega (arith, c.if-a-last.false, c.len.ensures.rows)) (omega (arith, c.if-b-last.false, c.len.ensures.rows)) (sym c.codes.ensures.codes ∙ (same ∙ c.codes-2.ensures.codes))

@@ -3,7 +3,7 @@ use Rattle.verdicts.specs.Verdict.{first_of}
 use Rattle.secrecy.specs.Rows.{place_columns}
 use Rattle.secrecy.specs.Rules.{flow_rule}
 use Rattle.row_layout.specs.Views.{rows_in, chip}
-use Rattle.judge.proofs.judgement.departure.Departure.check_levels.Given as goal
+use Rattle.judge.proofs.judgement.departure.Departure.check_each.Given as goal
 
 -- what the rules of all places come to is what those of the places that are left come to
 abbrev pub invariant-loop-place : goal.invariant-loop-place

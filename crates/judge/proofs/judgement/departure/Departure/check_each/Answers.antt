@@ -1,7 +1,7 @@
 use Rattle.std.proofs.Common.{ℕ, ◌≤◌, length, sym, drop_of_length-le}
 use Rattle.verdicts.proofs.Firsts.{first_of_end}
 use Rattle.secrecy.specs.Rows.{place_columns}
-use Rattle.judge.proofs.judgement.departure.Departure.check_levels.Goals as goal
+use Rattle.judge.proofs.judgement.departure.Departure.check_each.Goals as goal
 
 past : (i : ℕ) → 35 ≤ i → length place_columns ≤ i
 unfolding place_columns
