@@ -1,5 +1,5 @@
 -- Levels along an edge between rows that have the same codes.
-use Rattle.std.proofs.Common.{◌≡◌, ℕ, ◌+◌, ◌*◌, ◌<◌, ◌≤◌, Bool, true, false, take, drop, get_or, sym, ap, ◌∙◌, List, [], ◌∷◌, is_some, refl, arith}
+use Rattle.std.proofs.Common.{◌≡◌, ℕ, ◌+◌, ◌*◌, ◌<◌, ◌≤◌, Bool, true, false, length, take, drop, get_or, sym, ap, ◌∙◌, List, [], ◌∷◌, is_some, refl, arith}
 use Rattle.std.specs.List.{list_all}
 use Rattle.std.proofs.lemmas.Bool.Decides.{nat_tests}
 use Rattle.std.proofs.lemmas.List.{get_or-take, get_or-drop}
@@ -9,13 +9,14 @@ use Rattle.levels.specs.Order.{Meaning, Laws}
 use Rattle.words.specs.declared.instruction.Instruction.{Instruction}
 use Rattle.avr.specs.Table.{Row, lookup, places_of, rows_of as table_of, origins_of, written_of}
 use Rattle.avr.specs.Chip.{instruction_of}
-use Rattle.secrecy.specs.Rows.{is_among, place_columns, level_columns, columns, cell, rows_of}
+use Rattle.secrecy.specs.Rows.{Rows, is_among, place_columns, level_columns, columns, cell, rows_of}
 use Rattle.secrecy.specs.Rules.{held_rule, shape_rule, row_rule, flow_rule}
 use Rattle.secrecy.proofs.Columns.{among-nil, among-cons, level_column, first_of_each, each_first_of}
 use Rattle.secrecy.proofs.Held.{held_rule_met, levels_held}
 use Rattle.row_layout.specs.declared.routine.RoutineView.{RoutineView}
 use Rattle.row_layout.specs.Views.{rows_in, chip}
 use Rattle.row_layout.proofs.Places.{place_number}
+use Rattle.judge.specs.Views.{level_by}
 use Rattle.judge.specs.Verdicts.{rows_verdict, places_verdict, flows_along}
 
 -- the rows of the table that write a place are those that are of it
@@ -26,6 +27,14 @@ among_rows (r ∷ rs) p = grind (arith, nat_tests, among-cons r.place (places_of
 -- a place that is not among those that an instruction writes comes from nothing
 pub unwritten : (i : Instruction) (p : ℕ) → is_among (written_of i) p ≡ false → is_some (origins_of i p) ≡ false
 unwritten i p e = among_rows (table_of i) p ∙ e
+
+none_among : (ks : List ℕ) (p : ℕ) → length ks ≡ 0 → is_among ks p ≡ false
+none_among [] p e = among-nil p
+none_among (k ∷ ks) p e = grind arith
+
+-- what an instruction that writes nothing leaves at a place is what was there
+pub left_alone : (m : Meaning) (R : Rows) (a : ℕ) (i : Instruction) (p : ℕ) → length (written_of i) ≡ 0 → level_by m R a i p ≡ R.level a p
+left_alone m R a i p e = rw (unwritten i p (none_among (written_of i) p e))
 
 -- what holds of all numbers of a list holds of each that is among them
 among_all : (f : ℕ → Bool) (ks : List ℕ) (p : ℕ) → list_all f ks ≡ true → is_among ks p ≡ true → f p ≡ true

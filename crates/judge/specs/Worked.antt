@@ -8,7 +8,6 @@ use Rattle.machine.specs.Machine.{Kind, plain, forks, calls, rets}
 use Rattle.secrecy.specs.Flow as flow
 use Rattle.row_layout.specs.declared.routine.RoutineView.{RoutineView}
 use Rattle.row_layout.specs.Views.{rows_in, chip}
-use Rattle.judge.specs.Views.{level_by}
 
 -- a list has the instruction at every address: as long as the longest routine, with nops past the last word
 pub record Decoded (routine : RoutineView) (instructions : List Instruction) : Type 0 where
@@ -31,7 +30,3 @@ pub record Callees (routine : RoutineView) (callees : List (Option ℕ)) : Type 
 pub record Departs (m : Meaning) (routine : RoutineView) (at : ℕ) (instruction : Instruction) (known : ℕ) : Type 0 where
   pub is : instruction ≡ instruction_of routine.words.now at
   pub pc_level : known ≡ flow.pc_level m (chip routine) (rows_in routine.rows) at
-
--- a list has the level of each of the 35 places after an instruction at an address
-abbrev pub Leaves : Meaning → RoutineView → ℕ → Instruction → List ℕ → Type 0
-Leaves m routine at instruction after = (p : ℕ) → p < 35 → slice_index_or after p 0 ≡ level_by m (rows_in routine.rows) at instruction p

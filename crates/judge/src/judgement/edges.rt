@@ -8,7 +8,6 @@ ghost use Rattle.secrecy.specs.Rules.{flow_rule};
 ghost use Rattle.row_layout.specs.Views.{rows_in, chip};
 ghost use Rattle.judge.specs.Faults.{flow_refusal};
 ghost use Rattle.judge.specs.Views.{level_by};
-ghost use Rattle.judge.specs.Worked.{Leaves};
 ghost use Rattle.judge.specs.Verdicts.{in_time, flows_along, places_verdict, region_verdict, edge_verdict};
 
 use crate::faults::FlowFault;
@@ -98,14 +97,16 @@ impl<O: Order> Departure<'_, O> {
         }
     }
 
-    /// Whether the levels that all places have after the word flow to their codes in the next row.
-    // By numbers in turn, and from the row's codes alone: a return may have hundreds of edges, and asks this on each.
-    #[tactic(auto, using(verdicts::proofs::Firsts::first_none, verdicts::proofs::Firsts::first_more, crate::proofs::Kept::level_in))]
-    fn check_known(&self, next: u32, levels: &[u16; PLACES]) -> Result<(), FlowFault>
+    /// Whether the codes of the places flow to those in the next row: after a word that writes nothing they are the levels.
+    // One place after another, read from the codes of both rows alone: a return may have hundreds of edges, and asks this on each.
+    #[tactic(auto, using(verdicts::proofs::Firsts::first_none, verdicts::proofs::Firsts::first_more, crate::proofs::Kept::level_in, crate::proofs::Kept::left_alone))]
+    fn check_unwritten(&self, next: u32) -> Result<(), FlowFault>
+        requires at { self.now.at ≤ length self.now.judgement.now.routine.words.now }
         requires row { next ≤ length self.now.judgement.now.routine.words.now }
-        requires leaves { Leaves (O.Order.meaning self.now.judgement.now.order.now) self.now.judgement.now.routine self.now.at self.now.instruction levels.now }
+        requires nothing { length (written_of self.now.instruction) ≡ 0 }
         ensures { says flow_refusal result ≡ first (flow_rule (O.Order.meaning self.now.judgement.now.order.now) (chip self.now.judgement.now.routine) (rows_in self.now.judgement.now.routine.rows) self.now.at next) 35 }
     {
+        let levels = self.judgement.codes(u32::from(self.at));
         let codes = self.judgement.codes(next);
         for place in 0..PLACES as u16 {
             let index = usize::from(place);
@@ -140,9 +141,10 @@ impl<O: Order> Departure<'_, O> {
             return Ok(());
         }
         let last = u32::from(self.judgement.len());
-        match &self.levels {
-            Some(levels) if next <= last => self.check_known(next, levels),
-            _ => self.check_each(next),
+        if self.written.as_slice().is_empty() && u32::from(self.at) <= last && next <= last {
+            self.check_unwritten(next)
+        } else {
+            self.check_each(next)
         }
     }
 

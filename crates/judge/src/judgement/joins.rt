@@ -4,13 +4,10 @@ ghost use Rattle.avr.specs.Chip.{kind_of};
 ghost use Rattle.secrecy.specs.Flow.{joined as joined_of, join_of_all, deciding_of};
 ghost use Rattle.row_layout.specs.Views.{rows_in};
 ghost use Rattle.judge.specs.Views.{level_by};
-ghost use Rattle.judge.specs.Worked.{Leaves};
 
 use crate::judgement::Judgement;
 use avr::table::{comes_from, deciders};
 use levels::order::Order;
-use row_layout::PLACES;
-use std::array;
 use words::instruction::Instruction;
 use words::route::Route;
 
@@ -55,12 +52,5 @@ impl<O: Order> Judgement<'_, O> {
             Some(sources) => self.joined(row, self.routine.rows.region(row), sources.as_slice()),
             None => self.routine.rows.level(row, place),
         }
-    }
-
-    /// The level of each place after an instruction.
-    pub(crate) fn levels_after(&self, at: u16, instruction: Instruction) -> [u16; PLACES]
-        ensures { Leaves (O.Order.meaning self.now.order.now) self.now.routine at instruction result }
-    {
-        array::from_fn(|place| self.level_after(at, instruction, place as u16))
     }
 }

@@ -1,10 +1,8 @@
 //! The passes over a routine: all rows, all addresses, all edges.
 ghost use Rattle.std.specs.Prelude.{◌≡◌, ◌<◌};
-ghost use Rattle.std.specs.Option.{ForSome};
 ghost use Rattle.verdicts.specs.Verdict.{says, fine};
 ghost use Rattle.avr.specs.Chip.{instruction_of};
 ghost use Rattle.judge.specs.Faults.{row_refusal, flow_refusal};
-ghost use Rattle.judge.specs.Worked.{Leaves};
 ghost use Rattle.judge.specs.Verdicts.{rows_verdict, addresses_verdict, word_verdict, edges_verdict};
 
 use crate::faults::{FlowFault, RowFault};
@@ -12,7 +10,6 @@ use crate::judgement::Judgement;
 use crate::judgement::departure::Departure;
 use avr::table::written;
 use levels::order::Order;
-use row_layout::PLACES;
 use words::instruction::Instruction;
 use words::route::Route;
 
@@ -39,16 +36,6 @@ impl<O: Order> Judgement<'_, O> {
         Ok(())
     }
 
-    /// The level of each place after a return; of another word none are worked out.
-    fn levels_behind(&self, at: u16, instruction: Instruction) -> Option<[u16; PLACES]>
-        ensures { ForSome result (Leaves (O.Order.meaning self.now.order.now) self.now.routine at instruction) }
-    {
-        match instruction {
-            Instruction::Ret => Some(self.levels_after(at, instruction)),
-            _ => None,
-        }
-    }
-
     /// What the word at an address leaves behind.
     fn depart(&self, at: u16, instruction: Instruction) -> Departure<'_, O>
         requires right { rows_verdict (O.Order.meaning self.now.order.now) self.now.routine ≡ fine }
@@ -61,7 +48,6 @@ impl<O: Order> Judgement<'_, O> {
             at,
             instruction,
             written: written(instruction),
-            levels: self.levels_behind(at, instruction),
             pc_level: self.order.join(
                 self.routine.rows.region(u32::from(at)),
                 self.deciding(at, instruction),

@@ -1,7 +1,7 @@
 use Rattle.std.proofs.Common.{arith}
 use Rattle.judge.specs.Faults.{flow_refusal}
 use Rattle.judge.proofs.Checks.{stopped}
-use Rattle.judge.proofs.judgement.departure.Departure.check_known.Goals as goal
+use Rattle.judge.proofs.judgement.departure.Departure.check_unwritten.Goals as goal
 
 pub returns-in_err-check_place : goal.returns-in_err-check_place
 returns-in_err-check_place g c =

@@ -2,7 +2,7 @@ use Rattle.std.proofs.Common.{◌≡◌}
 use Rattle.secrecy.specs.Rules.{flow_rule}
 use Rattle.verdicts.specs.Verdict.{first, fine}
 use Rattle.row_layout.specs.Views.{rows_in, chip}
-use Rattle.judge.proofs.judgement.departure.Departure.check_known.Given as goal
+use Rattle.judge.proofs.judgement.departure.Departure.check_unwritten.Given as goal
 
 -- nothing is wrong with the places so far
 abbrev pub invariant-loop-place : goal.invariant-loop-place
