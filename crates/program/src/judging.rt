@@ -12,7 +12,7 @@ ghost use Rattle.routine.specs.Routines.{draft_of};
 ghost use Rattle.program.specs.Standings.{judges, JudgedOf};
 
 use crate::makings::before_making;
-use crate::working::{Job, Sets};
+use crate::working::Job;
 use explanations::{ColumnName, Refusal, RowLabel};
 use judge::faults::JudgeFault;
 use judge::judge;
@@ -44,7 +44,8 @@ struct WordLine {
     line: usize,
 }
 
-/// The lines of a file on which a row stands last, in the first set of rows and in the second; none where no line is about it.
+/// The lines of a file on which a row stands last, in the first set of rows and in the second; none where no line is about it, or where
+/// the set is not asked about.
 #[derive(Clone, Copy)]
 struct RowLines {
     row: u32,
@@ -145,12 +146,21 @@ impl<'r> Job<'r, '_> {
         Some(WordLine { at, line })
     }
 
-    /// On which lines of the file a row stands.
+    /// On which lines of the file a row stands, in the sets that the rows of the job are of.
     fn row_lines(self, row: u32) -> RowLines {
+        let Job { routine, sets, .. } = self;
         RowLines {
             row,
-            first: self.routine.row_line(row),
-            second: self.routine.second_row_line(row),
+            first: if sets.has_first() {
+                routine.row_line(row)
+            } else {
+                None
+            },
+            second: if sets.has_second() {
+                routine.second_row_line(row)
+            } else {
+                None
+            },
         }
     }
 
@@ -181,13 +191,13 @@ impl<'r> Job<'r, '_> {
     /// Prints lines of a row that were looked up, in the sets that the rows of the job are of.
     fn print_found_row(self, rt: &HostRuntime, lines: RowLines) -> io::Result<()> {
         let label = RowLabel::new(lines.row, self.routine.words.len());
-        if matches!(self.sets, Sets::First | Sets::Both) {
+        if self.sets.has_first() {
             match lines.first {
                 Some(line) => println!(rt; "  line {line} has {label}")?,
                 None => println!(rt; "  no line has {label}, so what is given there is 0")?,
             }
         }
-        if matches!(self.sets, Sets::Second | Sets::Both) {
+        if self.sets.has_second() {
             match lines.second {
                 Some(line) => println!(rt; "  line {line} has {label} of the second set")?,
                 None => println!(rt;

@@ -28,14 +28,21 @@ pub(crate) enum Task {
     Unreadable,
 }
 
-/// Loads what the words of a command line name, in turn; standard input where they name nothing.
+/// Loads what the words of a command line name, in turn; standard input where they name nothing. Behind a file that can neither be read
+/// nor be told of, nothing more is loaded.
 pub(crate) fn load(rt: &HostRuntime, texts: Vec<String>, words: &[Word]) -> io::Result<Vec<Task>> {
     let mut tasks = Vec::new(rt.alloc());
     for (text, word) in texts.into_iter().zip(words) {
         match word {
             Word::Help => tasks.push(Task::Help)?,
             Word::Version => tasks.push(Task::Version)?,
-            Word::Name => tasks.push(load_file(rt, text)?)?,
+            Word::Name => match load_file(rt, text) {
+                Ok(task) => tasks.push(task)?,
+                Err(_) => {
+                    tasks.push(Task::Unreadable)?;
+                    return Ok(tasks);
+                }
+            },
             Word::Check | Word::End | Word::Unknown => (),
         }
     }
@@ -45,11 +52,11 @@ pub(crate) fn load(rt: &HostRuntime, texts: Vec<String>, words: &[Word]) -> io::
     Ok(tasks)
 }
 
-/// Reads a file, or says that it cannot be read.
+/// Reads a file, or says that it cannot be read; an error where that cannot be said.
 fn load_file(rt: &HostRuntime, name: String) -> io::Result<Task> {
     match fs::read(rt, name.as_str()) {
         Ok(bytes) => Ok(Task::File { name, bytes }),
-        Err(error) => Ok(unreadable(rt, name.as_str(), error)),
+        Err(error) => unreadable(rt, name.as_str(), error),
     }
 }
 
@@ -61,14 +68,14 @@ fn load_input(rt: &HostRuntime) -> io::Result<Task> {
             let name = String::from_str(rt.alloc(), INPUT)?;
             Ok(Task::File { name, bytes })
         }
-        Err(error) => Ok(unreadable(rt, INPUT, error)),
+        Err(error) => unreadable(rt, INPUT, error),
     }
 }
 
-/// Says that a file cannot be read. Where that cannot be said either, the exit status still tells it.
-fn unreadable(rt: &HostRuntime, name: &str, error: io::Error) -> Task {
-    let _ = eprintln!(rt; "{name}: cannot be read: {error}");
-    Task::Unreadable
+/// Says that a file cannot be read.
+fn unreadable(rt: &HostRuntime, name: &str, error: io::Error) -> io::Result<Task> {
+    eprintln!(rt; "{name}: cannot be read: {error}")?;
+    Ok(Task::Unreadable)
 }
 
 impl Task {

@@ -26,6 +26,18 @@ pub(crate) enum Sets {
     Both,
 }
 
+impl Sets {
+    /// Whether the first is among them.
+    pub(crate) fn has_first(self) -> bool {
+        matches!(self, Sets::First | Sets::Both)
+    }
+
+    /// Whether the second is among them.
+    pub(crate) fn has_second(self) -> bool {
+        matches!(self, Sets::Second | Sets::Both)
+    }
+}
+
 /// A routine whose steps are to be worked, the order that it is judged by, if one was made, the rows that hold now, which are those that
 /// are given or those that a step has made, and the sets that they are of.
 #[derive(Clone, Copy)]
@@ -84,28 +96,27 @@ impl Job<'_, '_> {
         let life = live_through(rt.alloc(), self.routine.words.as_slice(), calls.as_slice())?;
         let given = self.lines_of(judged);
         let mut job = self;
-        let mut made = Lines::default();
+        let mut made = None;
         let mut number = 0usize;
-        let mut is_made = false;
         for step in steps {
             match *step {
-                Step::Judge if is_made => job.print_made_verdict(rt, making, made)?,
-                Step::Judge => self.print_verdict(rt, judged, given)?,
+                Step::Judge => match made {
+                    Some(lines) => job.print_made_verdict(rt, making, lines)?,
+                    None => self.print_verdict(rt, judged, given)?,
+                },
                 Step::Fill => {
                     self.print_filling(rt, making)?;
-                    if !is_made {
+                    if made.is_none() {
                         job = self.with_made(making, Sets::First);
-                        made = job.lines_of(making.judged());
+                        made = Some(job.lines_of(making.judged()));
                     }
-                    is_made = true;
                 }
                 Step::Pool => {
                     self.print_pooling(rt, making)?;
-                    if !is_made {
+                    if made.is_none() {
                         job = self.with_made(making, Sets::Both);
-                        made = job.lines_of(making.judged());
+                        made = Some(job.lines_of(making.judged()));
                     }
-                    is_made = true;
                 }
                 Step::Remaining => job.print_remaining(rt)?,
                 Step::Join { first, second } => self.join(rt, first, second)?,
